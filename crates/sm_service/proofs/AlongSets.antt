@@ -1,5 +1,5 @@
 -- A table of a set is one of every set that has the same shapes with values, and the same shapes and members that carry patterns.
-use Rattle.std.proofs.Common.{◌≡◌, ℕ, List, [], ◌∷◌}
+use Rattle.std.proofs.Common.{ℕ, List, [], ◌∷◌}
 use Rattle.std.specs.Prelude.{◌↔◌}
 use Rattle.sm_model.specs.Graphs.{GraphMaps}
 use Rattle.sm_shapes.specs.TableData.{TableData}
@@ -28,7 +28,8 @@ module _ (g : GraphMaps) (A B : IdSet) (values : (id : List ℕ) → IsValueShap
     least = λ other there. h.least other ((carrier u other).1 there);
   }
 
-  each_first : (us ids : List (List ℕ)) → EachSays (λ u id. IsFirstCarrier g A u id) us ids → EachSays (λ u id. IsFirstCarrier g B u id) us ids
+  each_first : (us ids : List (List ℕ)) → EachSays (λ u id. IsFirstCarrier g A u id) us ids
+      → EachSays (λ u id. IsFirstCarrier g B u id) us ids
   each_first [] [] h = tt
   each_first [] (id ∷ ids) h = absurd h
   each_first (u ∷ us) [] h = absurd h

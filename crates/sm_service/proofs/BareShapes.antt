@@ -1,5 +1,5 @@
--- Which shapes of a graph of the form of one have no members, and say nothing in a body: services, operations and resources have no members,
--- and shapes of the prelude neither.
+-- Shapes of a graph of the form of one that have no members, and say nothing in a body: services, operations and resources have none, and
+-- shapes of the prelude have neither.
 use Rattle.std.proofs.Common.{◌≡◌, inl, inr, ℕ, Bool, true, false, ◌&&◌, List, [], ◌∷◌, map, refl, sym, ap, ◌∙◌, arith}
 use Rattle.std.specs.List.{Contains, list_all}
 use Rattle.sm_model.specs.Formed.{HaveForm}

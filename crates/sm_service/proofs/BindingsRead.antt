@@ -1,16 +1,15 @@
 -- Of a service that is ready the traits that name parts of messages have texts, at each member of its table.
-use Rattle.std.proofs.Common.{◌≡◌, inl, inr, ℕ, Bool, true, false, ◌&&◌, List, [], Some, refl, sym, ap, ◌∙◌, subst}
+use Rattle.std.proofs.Common.{◌≡◌, inl, ℕ, Bool, true, false, List, [], Some, refl, sym, ◌∙◌, subst}
 use Rattle.std.specs.Prelude.{cond}
 use Rattle.std.specs.FinMap as fin
 use Rattle.std.specs.List.{Contains}
 use Rattle.sm_tree.specs.Node.{Node}
-use Rattle.sm_model.specs.Graphs.{GraphMaps, MemberEntry, ShapeEntry, member_entry, shape_entry}
+use Rattle.sm_model.specs.Graphs.{GraphMaps, ShapeEntry, member_entry, shape_entry}
 use Rattle.sm_model.specs.PreludeShapes.{is_prelude_id}
 use Rattle.sm_model.specs.Relations.{HasEntry}
 use Rattle.sm_model.proofs.OneRising.{contains_none}
 use Rattle.sm_compile.specs.Compiled.{IsTabledMember}
-use Rattle.sm_compile.specs.Kinds.{has_value_members, value_members}
-use Rattle.sm_compile.specs.Reached.{LeadsTo}
+use Rattle.sm_compile.specs.Kinds.{has_value_members}
 use Rattle.sm_compile.specs.Sound.{trait_of}
 use Rattle.sm_compile.specs.TraitIds.{http_header_id, http_prefix_headers_id, http_query_id}
 use Rattle.sm_compile.specs.TraitNodes.{is_text}
@@ -73,7 +72,8 @@ module _ (g : GraphMaps) (service : List ℕ) (is : IsService g service) (ready 
 
   reads : (trait : List ℕ) (n : Node) → has_row trait ≡ true → trait_of g id trait ≡ Some n → is_as_one (rows_of trait) n ≡ true
   reads trait n row at =
-      by_row g (IsOfService g service) (ready is).none id inside (member_own g (ready is).formed id there.0 there.1) spot stands trait n row at
+      by_row g (IsOfService g service) (ready is).none id inside (member_own g (ready is).formed id there.0 there.1) spot stands trait n
+      row at
 
   pub binding_texts : AreBindingTexts (trait_of g id)
   binding_texts = record {

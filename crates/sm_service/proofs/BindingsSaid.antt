@@ -1,11 +1,10 @@
 -- What is told of a member's traits by its id is what a row of a table says of them; and a member with a binding has no node of a default.
-use Rattle.std.proofs.Common.{◌≡◌, ℕ, Bool, true, false, ◌||◌, List, Option, Some, None, refl, sym, ap, ◌∙◌, subst}
+use Rattle.std.proofs.Common.{◌≡◌, ℕ, Bool, true, false, ◌||◌, List, Option, Some, None, refl, sym, ◌∙◌, subst}
 use Rattle.std.specs.Prelude.{cond, is_some}
 use Rattle.std.specs.FinMap as fin
-use Rattle.std.specs.List.{list_any}
 use Rattle.std.proofs.lemmas.Option.{none-some}
-use Rattle.sm_tree.specs.Node.{Node, null, bool, int, number, text, bytes, tag, opaque, list, object}
-use Rattle.sm_model.specs.Graphs.{GraphMaps, MemberEntry, NodeMap, member_entry}
+use Rattle.sm_tree.specs.Node.{Node, text}
+use Rattle.sm_model.specs.Graphs.{Entry, GraphMaps, MemberEntry, NodeMap, member_entry}
 use Rattle.sm_model.specs.Relations.{HasEntry}
 use Rattle.sm_model.specs.declared.kind.Kind.{Kind}
 use Rattle.sm_model.specs.declared.kind.Kind.TheVariants as model
@@ -13,20 +12,17 @@ use Rattle.sm_model.proofs.Worklist.{apart}
 use Rattle.sm_shapes.specs.TableData.{BindingData, label, query, query_params, header, prefix_headers, payload, response_code}
 use Rattle.sm_compile.specs.Said.{default_said, is_bound}
 use Rattle.sm_compile.specs.Sound.{trait_in, trait_of}
-use Rattle.sm_compile.specs.TraitIds.{binding_ids, http_header_id, http_label_id, http_payload_id, http_prefix_headers_id, http_query_id}
+use Rattle.sm_compile.specs.TraitIds.{http_header_id, http_label_id, http_payload_id, http_prefix_headers_id, http_query_id}
 use Rattle.sm_compile.specs.TraitIds.{http_query_params_id, http_response_code_id}
-use Rattle.sm_compile.specs.TraitNodes.{TraitsSeen, is_text, text_of, where_there}
+use Rattle.sm_compile.specs.TraitNodes.{is_text, text_of, where_there}
 use Rattle.sm_service.specs.Bound.{SaysBinding}
-use Rattle.sm_service.specs.steps.BindingsTold.{AreBindingTexts, SaysBindingBy, TellsBinding}
+use Rattle.sm_service.specs.steps.BindingsTold.{SaysBindingBy}
 
 -- the traits of the member with an id
 pub binding_said : (g : GraphMaps) (id : List ℕ) (m : MemberEntry) → HasEntry g id (member_entry m) → (b : Option BindingData)
     → SaysBindingBy (trait_of g id) b → SaysBinding m.traits b
-binding_said g id m there b h = by b (subst (λ (seen : TraitsSeen). SaysBindingBy seen b) traits h)
+binding_said g id m there b h = by b (subst (λ (o : Option Entry). SaysBindingBy (λ name. trait_in name o) b) there h)
   where
-    traits : Path TraitsSeen (trait_of g id) (λ name. fin.get m.traits name)
-    traits = λ i name. ap (trait_in name) there i
-
     by : (b : Option BindingData) → SaysBindingBy (λ name. fin.get m.traits name) b → SaysBinding m.traits b
     by None h = h
     by (Some label) h = h
@@ -86,7 +82,7 @@ module _ (traits : NodeMap) where
       (rest_not (has http_payload_id) _ (rest_not (has http_prefix_headers_id) _ (rest_not (has http_header_id) _ (from_header h))))
 
   never : (b : Bool) → b ≡ false → b ≡ true → ⊥
-  never b no yes = apart (sym no ∙ yes)
+  never b off on = apart (sym off ∙ on)
 
   pub unbound_said : is_bound traits ≡ false → (b : Option BindingData) → SaysBinding traits b → b ≡ None
   unbound_said none None h = refl

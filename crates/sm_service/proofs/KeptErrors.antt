@@ -1,7 +1,11 @@
 -- Lists but for what stands at some places, which rise.
 use Rattle.std.proofs.Common.{◌≡◌, ◌⊎◌, inl, inr, ℕ, zero, suc, ◌+◌, ◌<◌, ◌≤◌, Bool, true, false, cond, List, [], ◌∷◌, Option, Some, None, length}
 use Rattle.std.proofs.Common.{refl, sym, ap, ◌∙◌, subst, arith}
-use Rattle.std.specs.Prelude.{◌==◌, nat_lt, slice_get}
+use denote.Ref.{Bor}
+use Rattle.std.specs.Prelude.{◌==◌, MatchOption, nat_lt, slice_get}
+use Rattle.std.specs.List.{HoldsAt}
+use Rattle.std.specs.Option.{option_copied}
+use Rattle.std.proofs.lemmas.Option.{slice_get-get_or, slice_get_past}
 use Rattle.std.proofs.lemmas.Bool.{cases_lt, eqb-true, le-ltb, lt-ltb}
 use Rattle.std.proofs.lemmas.Bool.Decides.{eqb_tells}
 use Rattle.sm_model.proofs.Worklist.{apart}
@@ -125,3 +129,9 @@ module _ {X : Type 0} where
   kept_at_place ps xs j r =
       let first : moved_place ps (0 + j) ≡ 0 + moved_place ps j = let same : 0 + j ≡ j = omega arith in ap (moved_place ps) same ∙ omega arith in
       kept_get ps 0 xs j (moved_place ps j) (whole ps xs r) first
+
+  -- what a slice answers at a place
+  pub got_at_place : (r : Option (Bor X)) (xs : List X) (i : ℕ)
+      → MatchOption r (length xs ≤ i) (λ x. (i < length xs) × HoldsAt (λ y. x.now ≡ y) xs i) → option_copied r ≡ slice_get xs i
+  got_at_place None xs i past = sym (slice_get_past xs i past)
+  got_at_place (Some x) xs i here = ap (λ y. Some y) (here.1 x.now) ∙ sym (slice_get-get_or xs i x.now here.0)

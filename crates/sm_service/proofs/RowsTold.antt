@@ -1,9 +1,10 @@
 -- Rows told one after the other, and rows at each of which something is put.
-use Rattle.std.proofs.Common.{◌≡◌, ℕ, ◌+◌, ◌<◌, List, [], ◌∷◌, ◌++◌, map, length, set, take, drop, get_or, refl, sym, ap, ◌∙◌, subst, arith}
+use Rattle.std.proofs.Common.{◌≡◌, ℕ, ◌+◌, ◌<◌, List, [], ◌∷◌, ◌++◌, map, length, set, take, drop, get_or, refl, sym, ap, ◌∙◌, subst}
 use Rattle.std.specs.Global.{Vec}
-use Rattle.std.specs.List.{Contains}
+use Rattle.std.specs.List.{Contains, flat_map}
 use Rattle.std.specs.Vec.{with_items}
-use Rattle.std.proofs.lemmas.List.{map-append, set-get_or, take-append-drop, take_more, with_items_is}
+use Rattle.std.proofs.lemmas.List.{append-nil, map-append, set-get_or, take-append-drop, take_more, with_items_is}
+use Rattle.std.proofs.lemmas.Grind.{flat_map-append}
 use Rattle.sm_model.proofs.OneRising.{contains_behind, contains_head}
 use Rattle.sm_shapes.specs.MemberPuts.{put_each}
 use Rattle.sm_shapes.specs.TableData.{MemberData}
@@ -27,6 +28,15 @@ module _ {D : Type 0} (Says : List ℕ → D → Type 0) where
       subst (λ ids. EachSays Says ids now) (sym more)
       (subst (EachSays Says (map name (take i ks) ++ name (get_or ks i 0) ∷ [])) (sym put)
       (told_more (map name (take i ks)) before (name (get_or ks i 0)) d h says))
+
+-- what each of more things has
+pub flat_more : (f : List ℕ → List (List ℕ)) (name : ℕ → List ℕ) (ks : List ℕ) (i : ℕ) → i < length ks
+    → flat_map f (map name (take (i + 1) ks)) ≡ flat_map f (map name (take i ks)) ++ f (name (get_or ks i 0))
+flat_more f name ks i lt =
+    ap (λ (xs : List ℕ). flat_map f (map name xs)) (take_more ks i 0 lt)
+    ∙ ap (flat_map f) (map-append name (take i ks) (get_or ks i 0 ∷ []))
+    ∙ flat_map-append f (map name (take i ks)) (name (get_or ks i 0) ∷ [])
+    ∙ ap (λ ys. flat_map f (map name (take i ks)) ++ ys) (append-nil (f (name (get_or ks i 0))))
 
 -- what each row says, by what is told of it
 pub each_along : {D : Type 0} (P Q : List ℕ → D → Type 0) (ids : List (List ℕ)) (ds : List D) → ((id : List ℕ) (d : D) → P id d → Q id d)

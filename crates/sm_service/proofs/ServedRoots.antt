@@ -1,5 +1,9 @@
 -- Whether shapes are served, one after the other, and the paths of ways from where an operation's walk begins.
-use Rattle.std.proofs.Common.{◌≡◌, ◌⊎◌, inl, inr, ℕ, List, [], ◌∷◌, ◌++◌, map, refl, sym, ap, ◌∙◌, subst, append_assoc, arith}
+use Rattle.std.proofs.Common.{◌≡◌, ◌⊎◌, inl, inr, ℕ, zero, suc, ◌+◌, ◌<◌, ◌≤◌, List, [], ◌∷◌, ◌++◌, map, length, drop, get_or, refl, sym, ap, ◌∙◌, subst}
+use Rattle.std.proofs.Common.{arith}
+use Rattle.std.proofs.Math.Seq.{drop-nil}
+use Rattle.std.proofs.lemmas.List.{drop_more}
+use Rattle.std.specs.Prelude.{IfOk, Result, Ok, Err}
 use Rattle.std.specs.List.{Contains, join_with_byte}
 use Rattle.sm_bytes.specs.Ascii.{slash}
 use Rattle.sm_model.specs.Graphs.{GraphMaps, member_entry, member_id}
@@ -17,6 +21,11 @@ use Rattle.sm_service.specs.ServedOperation.{TellsAllServed, WalkRoot}
 use Rattle.sm_service.specs.declared.serving.WalkStart.{WalkStart}
 use Rattle.sm_service.specs.declared.serving.WalkStart.TheVariants as start
 use Rattle.sm_service.specs.steps.WalkStarts.{HasFilledNames, root_of, roots_of, start_names, start_shape}
+
+-- what follows from a value
+pub if_ok : {T E : Type 0} (r : Result T E) {P Q : T → Type 0} → ((x : T) → P x → Q x) → IfOk r P → IfOk r Q
+if_ok (Ok x) from h = from x h
+if_ok (Err e) from h = tt
 
 -- the first name of a way has a byte
 abbrev BeginsFilled : List (List ℕ) → Type 0
@@ -68,3 +77,21 @@ module _ (g : Graph) (names : HasFilledNames (maps_of g)) where
         ap (member_path_text (join_with_byte slash (start_names w))) h.2
             ∙ path_joined w (names_of_way h.0) (begins_filled (maps_of g) (id_of_number g (start_shape w)) h.0 names h.1.simple.0),
       )
+
+-- what is told of starts one after the other
+pub told_at : (starts : List WalkStart) (i : ℕ) → i < length starts → (g : Graph) (s : Served)
+    → TellsAllServed (maps_of g) (roots_of g (get_or starts i (start.Input 0) ∷ drop (i + 1) starts)) s
+    → TellsAllServed (maps_of g) (roots_of g (drop i starts)) s
+told_at starts i lt g s h =
+    subst (λ ws. TellsAllServed (maps_of g) (roots_of g ws) s) (sym (drop_more starts i (start.Input 0) lt)) h
+
+dropped : {X : Type 0} (xs : List X) (i : ℕ) → length xs ≤ i → drop i xs ≡ []
+dropped [] i le = drop-nil i
+dropped (x ∷ xs) zero le = absurd (omega (arith, le))
+dropped (x ∷ xs) (suc i) le = dropped xs i (omega (arith, le))
+
+pub told_end : (starts : List WalkStart) (i : ℕ) → length starts ≤ i → (g : Graph)
+    → TellsAllServed (maps_of g) (roots_of g (drop i starts)) Yes
+told_end starts i le g =
+    subst (λ ws. TellsAllServed (maps_of g) (roots_of g ws) Yes) (sym (dropped starts i le))
+    (λ root among. absurd (omega (arith, among.1)))

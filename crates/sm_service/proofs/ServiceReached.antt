@@ -1,5 +1,5 @@
 -- What a service leads to, and what its shapes with values reach: the same shapes with values, and the same members.
-use Rattle.std.proofs.Common.{◌≡◌, ◌⊎◌, inl, inr, ℕ, Bool, true, false, List, [], ◌∷◌, Option, Some, None, refl, sym, ap, ◌∙◌, subst}
+use Rattle.std.proofs.Common.{◌≡◌, inl, inr, ℕ, Bool, true, false, List, [], ◌∷◌, Option, Some, None, refl, sym, ap, ◌∙◌, subst}
 use Rattle.std.specs.Prelude.{◌↔◌, if◌then◌else◌}
 use Rattle.std.specs.List.{Contains}
 use Rattle.std.proofs.lemmas.Option.{none-some}
@@ -51,8 +51,8 @@ reaches_on g (next ∷ more) from last to walk step =
     let rest = reaches_on g more next last to walk.1 step in (next ∷ rest.0, (walk.0, rest.1))
 
 -- an id is a shape's or a member's
-no_member : (g : GraphMaps) (id : List ℕ) (s : ShapeEntry) (m : MemberEntry) → HasEntry g id (shape_entry s) → HasEntry g id (member_entry m)
-    → ⊥
+no_member : (g : GraphMaps) (id : List ℕ) (s : ShapeEntry) (m : MemberEntry) → HasEntry g id (shape_entry s)
+    → HasEntry g id (member_entry m) → ⊥
 no_member g id s m shape member = apart_from (one_entry g id (shape_entry s) (member_entry m) shape member)
   where
     apart_from : shape_entry s ≡ member_entry m → ⊥
@@ -90,7 +90,8 @@ module _ (g : GraphMaps) (service : List ℕ) (is : IsService g service) (ready 
   IsReachedMember id = (m : MemberEntry) → HasEntry g id (member_entry m) → In id
 
   -- a step leads to a member from a shape with values, or from a member
-  module _ (from to : List ℕ) (inside : Of from) (before : IsReachedMember from) (m : MemberEntry) (there : HasEntry g to (member_entry m)) where
+  module _ (from to : List ℕ) (inside : Of from) (before : IsReachedMember from) (m : MemberEntry)
+      (there : HasEntry g to (member_entry m)) where
     by_members : (s : ShapeEntry) → HasEntry g from (shape_entry s) → Contains s.members to → IsInGraph g to → In to
     by_members s has listed found = by_kind (has_values s.kind) refl
       where

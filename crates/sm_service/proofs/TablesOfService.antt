@@ -1,9 +1,8 @@
 -- The table of the shapes with values of a service, reached from them, is one of all that the service leads to.
-use Rattle.std.proofs.Common.{◌≡◌, ℕ, List, map, length, refl, sym, ap, ◌∙◌, subst}
-use Rattle.std.specs.Prelude.{◌↔◌, ◌++◌}
+use Rattle.std.proofs.Common.{◌≡◌, ℕ, List, map, sym, ap, ◌∙◌, subst}
+use Rattle.std.specs.Prelude.{Err}
 use Rattle.std.specs.Cmp.Lexicographic.{nat_list_cmp_total}
 use Rattle.std.specs.List.{Contains, flat_map}
-use Rattle.sm_model.specs.Graphs.{GraphMaps}
 use Rattle.sm_model.specs.GraphView.{maps_of}
 use Rattle.sm_model.specs.Reaching.{id_of_number}
 use Rattle.sm_model.specs.declared.graph.Graph.{Graph}
@@ -14,19 +13,23 @@ use Rattle.sm_shapes.specs.TableView.{table_data}
 use Rattle.sm_compile.specs.Answers.{IsLeftBehind, StoreSeen}
 use Rattle.sm_compile.specs.Compiled.{IdSet, IsCompiled, Numbering, members_under, texts_of}
 use Rattle.sm_compile.specs.Sound.{trait_of}
-use Rattle.sm_compile.specs.Roots.{AreSoundRoots, IsPatternOfRootsRefused, IsReachedFromSome, IsTableOfRoots}
+use Rattle.sm_compile.specs.Roots.{AreSoundRoots, CompilesRoots, IsReachedFromSome, IsTableOfRoots}
+use Rattle.sm_compile.specs.declared.compiled.CompileRefusal.{CompileRefusal}
+use Rattle.sm_compile.specs.declared.compiled.CompileRefusal.TheVariants as roots
 use Rattle.sm_compile.specs.declared.tabled.Tabled.{Tabled}
 use Rattle.sm_compile.specs.steps.Numbered.{numbering}
 use Rattle.sm_rules.specs.Ready.{IsOfService, Ready}
 use Rattle.sm_rules.specs.Words.{IsService}
 use Rattle.sm_accepted.proofs.ReadyGraphs.{sound_roots}
-use Rattle.sm_service.specs.Bound.{Binds}
+use Rattle.sm_service.specs.declared.refusal.ServiceRefusal.{ServiceRefusal}
+use Rattle.sm_service.specs.declared.refusal.ServiceRefusal.TheVariants.{NoService, Pattern, NoMemory}
 use Rattle.sm_service.specs.steps.BindingsTold.{AreBindingTexts}
-use Rattle.sm_service.specs.steps.ServiceTables.{AreValueShapes, IsBoundFrom, IsRefusedOfService, IsTableOfService, IsTableOfShapes}
+use Rattle.sm_service.specs.steps.ServiceTables.{AreValueShapes, IsBoundFrom, IsBoundTable, IsTableOfService}
+use Rattle.sm_service.specs.steps.ServiceTables.{IsTableOfShapes, TablesBound, TablesService, TablesShapes, refusal_of}
 use Rattle.sm_service.proofs.AlongSets.{compiled_along, refused_along}
 use Rattle.sm_service.proofs.BindingsRead.{binding_texts}
 use Rattle.sm_service.proofs.ServiceReached.{same_carriers, same_values}
-use Rattle.sm_service.proofs.TablesBound.{IsWhole, bound_whole}
+use Rattle.sm_service.proofs.BoundRows.{bound_whole}
 
 module _ (g : Graph) (service : List ℕ) (is : IsService (maps_of g) service) (ready : Ready (maps_of g) service) (shapes : List ℕ)
     (are : AreValueShapes g service shapes) where
@@ -70,26 +73,27 @@ module _ (g : Graph) (service : List ℕ) (is : IsService (maps_of g) service) (
         refusals = h.refusals;
       }
 
-  pub refusal_told : (before now : StoreSeen) (id : List ℕ) → IsPatternOfRootsRefused (maps_of g) ids before now id
-      → IsRefusedOfService g service before now id
-  refusal_told before now id h =
+  refusal_told : (test : Test) (before now : StoreSeen) (refusal : CompileRefusal) → CompilesRoots g shapes test before now (Err refusal)
+      → TablesShapes g service shapes test before now (Err (refusal_of refusal))
+  refusal_told test before now roots.NoShape h = absurd h
+  refusal_told test before now (roots.Pattern id) h =
       refused_along (maps_of g) In Of (same_values (maps_of g) service is ready ids are.all)
       (same_carriers (maps_of g) service is ready ids are.all) before now id h
+  refusal_told test before now roots.NoMemory h = h
+
+  pub refused_roots : (test : Test) (before now : StoreSeen) (refusal : CompileRefusal) (r : ServiceRefusal) → r ≡ refusal_of refusal
+      → CompilesRoots g shapes test before now (Err refusal) → TablesShapes g service shapes test before now (Err r)
+  refused_roots test before now refusal r is h =
+      subst (λ (x : ServiceRefusal). TablesShapes g service shapes test before now (Err x)) (sym is)
+      (refusal_told test before now refusal h)
 
   -- and with its bindings
   module _ (test : Test) (before now : StoreSeen) (t : TableData) (plain : IsTableOfShapes g service shapes test before now t) where
     texts_there : (id : List ℕ) → Contains (numbering g shapes).members id → AreBindingTexts (trait_of (maps_of g) id)
     texts_there id among = binding_texts (maps_of g) service is ready id ((plain.compiled.members id).0 among)
 
-    pub whole_told : (made : Tabled) → made.shapes.items ≡ shapes → IsBoundFrom g shapes t (table_data made.table)
-        → IsTableOfService g service test before now made
-    whole_told made same bound =
-        let whole = bound_whole g service shapes test before now t plain texts_there (table_data made.table) bound in
-        record {
-          shapes = subst (AreValueShapes g service) (sym same) are;
-          table = subst (λ ks. IsTableOfShapes g service ks test before now (table_data made.table)) (sym same) whole.table;
-          binds = subst (λ ks. Binds (maps_of g) (numbering g ks) (table_data made.table)) (sym same) whole.binds;
-        }
+    pub bound_told : (u : TableData) → IsBoundFrom g shapes t u → IsBoundTable g service shapes test before now u
+    bound_told u bound = bound_whole g service shapes test before now t plain texts_there u bound
 
     pub left_told : IsLeftBehind before now
     left_told = record {
@@ -98,3 +102,25 @@ module _ (g : Graph) (service : List ℕ) (is : IsService (maps_of g) service) (
       refused = plain.refused;
       refusals = plain.refusals;
     }
+
+  -- a refusal of the plain table is one of the table
+  pub refused_too : (test : Test) (before now : StoreSeen) (refusal : ServiceRefusal)
+      → TablesShapes g service shapes test before now (Err refusal) → TablesBound g service shapes test before now (Err refusal)
+  refused_too test before now NoService h = absurd h
+  refused_too test before now (Pattern id) h = h
+  refused_too test before now NoMemory h = h
+
+-- and of the service
+pub refused_of_service : (g : Graph) (service : List ℕ) (shapes : List ℕ) (test : Test) (before now : StoreSeen) (refusal : ServiceRefusal)
+    → TablesBound g service shapes test before now (Err refusal) → TablesService g service test before now (Err refusal)
+refused_of_service g service shapes test before now NoService h = absurd h
+refused_of_service g service shapes test before now (Pattern id) h = h
+refused_of_service g service shapes test before now NoMemory h = h
+
+pub service_tabled : (g : Graph) (service : List ℕ) (shapes : List ℕ) (test : Test) (before now : StoreSeen) (made : Tabled)
+    → made.shapes.items ≡ shapes → AreValueShapes g service shapes
+    → IsBoundTable g service shapes test before now (table_data made.table) → IsTableOfService g service test before now made
+service_tabled g service shapes test before now made same are bound = record {
+  shapes = subst (AreValueShapes g service) (sym same) are;
+  table = subst (λ ks. IsBoundTable g service ks test before now (table_data made.table)) (sym same) bound;
+}

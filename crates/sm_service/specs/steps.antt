@@ -6,3 +6,4 @@ pub mod WalkStarts
 pub mod WireSaid
 pub mod BindingsTold
 pub mod ServiceTables
+pub mod OperationRows

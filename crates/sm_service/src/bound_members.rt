@@ -156,12 +156,7 @@ fn binding_of_kind(
 }
 
 // The text of a trait, where it is there and a text.
-fn text_at(
-    alloc: Global,
-    graph: &Graph,
-    number: u32,
-    name: &str,
-) -> Result<Option<Text>, NoMemory>
+fn text_at(alloc: Global, graph: &Graph, number: u32, name: &str) -> Result<Option<Text>, NoMemory>
     requires { IsShapeNumber graph.now number }
     ensures { IfOk result (λ text. text ≡ text_of (trait_of (maps_of graph.now) (id_of_number graph.now number) name.now)) }
 {

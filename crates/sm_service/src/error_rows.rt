@@ -46,7 +46,8 @@ pub(crate) fn error_row(
     })
 }
 
-fn id_copy(alloc: Global, graph: &Graph, number: u32) -> Result<ShapeId, NoMemory>
+/// A copy of the id at a number.
+pub(crate) fn id_copy(alloc: Global, graph: &Graph, number: u32) -> Result<ShapeId, NoMemory>
     requires { IsShapeNumber graph.now number }
     ensures { IfOk result (λ id. id ≡ id_of_number graph.now number) }
 {

@@ -1,12 +1,12 @@
 // The errors of an operation: its own, and behind them those of its service, which all operations share.
-ghost use Rattle.std.specs.Prelude.{◌≡◌, ◌+◌, ◌<◌, ◌^◌, ℕ, IfOk, length, map, slice_get};
+ghost use Rattle.std.specs.Prelude.{◌≡◌, ◌+◌, ◌-◌, ◌<◌, ◌^◌, ℕ, IfOk, MatchOption, Some, length, map, slice_get};
 ghost use Rattle.std.specs.List.{Contains};
-ghost use Rattle.std.specs.Option.{option_copied};
+ghost use Rattle.std.specs.Option.{option_copied, option_map};
 ghost use Rattle.sm_shapes.specs.SharedView.{shared_list};
 ghost use Rattle.sm_service.specs.ErrorOrder.{NamesDiffer, name_at_place, place_named};
 ghost use Rattle.sm_service.specs.ErrorsView.{RiseBetween, but_at, joined_errors};
 ghost use Rattle.sm_service.specs.ServiceData.{name_of_error};
-ghost use Rattle.sm_service.specs.steps.KeptPlaces.{moved_place};
+ghost use Rattle.sm_service.specs.steps.KeptPlaces.{below_place, moved_place};
 
 use crate::error::ErrorShape;
 use crate::error_order::{name_order, place_named};
@@ -54,8 +54,8 @@ impl KnownErrors {
         self.errors.as_slice()
     }
 
-    // The place of the error of a name. log n, no memory.
-    fn named(&self, name: &str) -> Option<u32>
+    /// The place of the error of a name. log n, no memory.
+    pub(crate) fn named(&self, name: &str) -> Option<u32>
         ensures { result ≡ place_named self.now name.now }
     {
         place_named(self.errors.as_slice(), self.by_name.as_slice(), name)
@@ -135,6 +135,58 @@ impl Errors {
             )
         }
     }
+
+    /// The place of an error of a name, its own before the service's; `None` where none has the name. By halves, but for the errors that
+    /// the operation and its service both name. No memory.
+    pub fn named(&self, name: &str) -> Option<usize>
+        requires { length self.now < 2 ^ 32 }
+        ensures { MatchOption result
+            (Contains (map name_of_error self.now) name.now → ⊥)
+            (λ place. slice_get (map name_of_error self.now) place ≡ Some name.now) }
+    {
+        match place_named(self.own.as_slice(), self.own_by_name.as_slice(), name) {
+            Some(place) => Some(place as usize),
+            None => behind(
+                self.own.len(),
+                kept_named(&self.shared, self.again.as_slice(), name),
+            ),
+        }
+    }
+}
+
+// A place behind so many.
+fn behind(count: usize, place: Option<usize>) -> Option<usize>
+    requires { (k : ℕ) → place ≡ Some k → count + k < 2 ^ 64 }
+    ensures { result ≡ option_map (λ k. count + k) place }
+{
+    match place {
+        Some(place) => Some(count + place),
+        None => None,
+    }
+}
+
+// The place of the shared error of a name among those but at these places, none of which has the name.
+fn kept_named(shared: &Option<Rc<KnownErrors>>, again: &[u32], name: &str) -> Option<usize>
+    requires rise { RiseBetween 0 (length (shared_list shared.now)) again.now }
+    requires other { (k : ℕ) → Contains again.now k → name_at_place (shared_list shared.now) k ≡ name.now → ⊥ }
+    ensures { MatchOption result
+        (Contains (map name_of_error (shared_list shared.now)) name.now → ⊥)
+        (λ place. slice_get (map name_of_error (but_at again.now 0 (shared_list shared.now))) place ≡ Some name.now) }
+{
+    match shared_named(shared, name) {
+        Some(place) => Some(kept_place(again, place as usize)),
+        None => None,
+    }
+}
+
+// The place of the shared error of a name.
+fn shared_named(shared: &Option<Rc<KnownErrors>>, name: &str) -> Option<u32>
+    ensures { result ≡ place_named (shared_list shared.now) name.now }
+{
+    match shared {
+        None => None,
+        Some(known) => known.as_ref().named(name),
+    }
 }
 
 // What is shared.
@@ -180,4 +232,27 @@ fn moved_place(places: &[u32], kept: usize) -> usize
         at += 1;
     }
     at
+}
+
+// The place of what has this one, which isn't among these, where these are left out.
+fn kept_place(places: &[u32], place: usize) -> usize
+    requires rise { (high : ℕ) × RiseBetween 0 high places.now }
+    requires other { Contains places.now place → ⊥ }
+    ensures { result ≡ place - below_place places.now place }
+{
+    place - below_place(places, place)
+}
+
+// How many of these places, which rise, stand before one that isn't among them.
+fn below_place(places: &[u32], place: usize) -> usize
+    ensures { result ≡ below_place places.now place }
+{
+    let mut count = 0;
+    for other in places {
+        if place < *other as usize {
+            return count;
+        }
+        count += 1;
+    }
+    count
 }

@@ -1,7 +1,12 @@
 // Laws over the definitions: public functions with empty bodies, whose contracts are the laws.
-ghost use Rattle.sm_service.specs.Laws.{HttpServableWhereReady, StaysServable};
+ghost use Rattle.sm_service.specs.Laws.{HttpServableWhereReady, ServableWhereReady, StaysServable};
 
-/// A service that is ready has, once it is compiled, all that HTTP bindings ask of it.
+/// What is ready is servable once it is compiled.
+pub fn servable_where_ready()
+    ensures { ServableWhereReady }
+{}
+
+/// What is ready has all that HTTP bindings ask of it, once it is compiled.
 pub fn http_servable_where_ready()
     ensures { HttpServableWhereReady }
 {}

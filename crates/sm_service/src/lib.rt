@@ -2,9 +2,9 @@
 // message pays for the model.
 #![tactic(auto)]
 
+mod closure;
 mod bound_members;
 mod bound_table;
-mod closure;
 mod error;
 mod error_order;
 mod error_rows;
@@ -12,6 +12,9 @@ mod errors;
 mod http_rule;
 pub mod laws;
 mod operation;
+mod operation_errors;
+mod operation_numbers;
+mod operations;
 mod references;
 mod refusal;
 mod served;

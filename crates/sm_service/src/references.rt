@@ -40,10 +40,7 @@ pub(crate) fn references<'a>(
         → texts_of_all ids.items ≡ references_in name.now s) }
 {
     match field_of(graph.properties(shape), name) {
-        Some(tree) => {
-            let ids = texts_in(alloc, tree)?;
-            Ok(ids)
-        }
+        Some(tree) => texts_in(alloc, tree),
         None => Ok(Vec::new(alloc)),
     }
 }

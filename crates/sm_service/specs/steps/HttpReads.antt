@@ -9,13 +9,13 @@ use Rattle.sm_uri.specs.UriPattern.{IsUriText, UriSaid, UriText}
 use Rattle.sm_rules.specs.Words.{IsOperation}
 use Rattle.sm_http_traits.specs.Http.{code_seen, method_seen, uri_seen}
 
--- its fields, as they are read: a code is a status
+-- its fields, as they are read: it can't be that the `uri` is no pattern, and a code is a status
 pub record HasHttpFields (g : GraphMaps) (id : List ℕ) : Type 0 where
   pub method : List ℕ
   pub method_is : method_seen g id ≡ Some method
   pub text : List ℕ
   pub text_is : uri_seen g id ≡ Some text
-  pub pattern : IsUriText text
+  pub pattern : (IsUriText text → ⊥) → ⊥
   pub code : (z : ℤ) → code_seen g id ≡ Some z → (k : ℕ) × (z ≡ pos k) × (k < 2 ^ 16)
 
 pub record ReadsHttp (g : GraphMaps) (id : List ℕ) : Type 0 where

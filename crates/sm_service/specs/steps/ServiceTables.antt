@@ -15,6 +15,8 @@ use Rattle.sm_shapes.specs.TableView.{table_data}
 use Rattle.sm_shapes.specs.declared.tables.Table.{Table}
 use Rattle.sm_compile.specs.Answers.{IsLeftBehind, IsPatternOfSetRefused, StoreSeen}
 use Rattle.sm_compile.specs.Compiled.{AreNumberedFrom, EachSays, IsCompiled, IsTabled, texts_of}
+use Rattle.sm_compile.specs.declared.compiled.CompileRefusal.{CompileRefusal}
+use Rattle.sm_compile.specs.declared.compiled.CompileRefusal.TheVariants as roots
 use Rattle.sm_compile.specs.declared.tabled.Tabled.{Tabled}
 use Rattle.sm_compile.specs.steps.Numbered.{numbering}
 use Rattle.sm_rules.specs.Ready.{IsOfService}
@@ -43,6 +45,12 @@ pub record IsTableOfShapes (g : Graph) (service : List ℕ) (shapes : List ℕ) 
   pub refused : now.refused ≡ before.refused
   pub refusals : now.refusals ≡ before.refusals
 
+-- what refuses the table of several shapes
+abbrev pub refusal_of : CompileRefusal → ServiceRefusal
+refusal_of roots.NoShape = NoService
+refusal_of (roots.Pattern id) = Pattern id
+refusal_of roots.NoMemory = NoMemory
+
 abbrev pub IsRefusedOfService : Graph → List ℕ → StoreSeen → StoreSeen → List ℕ → Type 0
 IsRefusedOfService g service before now id = IsPatternOfSetRefused (maps_of g) (IsOfService (maps_of g) service) before now id
 
@@ -62,11 +70,22 @@ pub record IsBoundFrom (g : Graph) (shapes : List ℕ) (t u : TableData) : Type 
   pub shapes_told : EachSays (TellsShapeMedia (maps_of g)) (numbering g shapes).shapes shape_media
   pub is : u ≡ table_bound t bindings media shape_media
 
+-- with its bindings
+pub record IsBoundTable (g : Graph) (service : List ℕ) (shapes : List ℕ) (test : Test) (before now : StoreSeen) (t : TableData)
+    : Type 0 where
+  pub of_shapes : IsTableOfShapes g service shapes test before now t
+  pub binds : Binds (maps_of g) (numbering g shapes) t
+
+abbrev pub TablesBound : Graph → List ℕ → List ℕ → Test → StoreSeen → StoreSeen → Result Table ServiceRefusal → Type 0
+TablesBound g service shapes test before now (Ok table) = IsBoundTable g service shapes test before now (table_data table)
+TablesBound g service shapes test before now (Err NoService) = ⊥
+TablesBound g service shapes test before now (Err (Pattern id)) = IsRefusedOfService g service before now id
+TablesBound g service shapes test before now (Err NoMemory) = IsLeftBehind before now
+
 -- the table of a service, with the numbers of its shapes in the graph
 pub record IsTableOfService (g : Graph) (service : List ℕ) (test : Test) (before now : StoreSeen) (made : Tabled) : Type 0 where
   pub shapes : AreValueShapes g service made.shapes.items
-  pub table : IsTableOfShapes g service made.shapes.items test before now (table_data made.table)
-  pub binds : Binds (maps_of g) (numbering g made.shapes.items) (table_data made.table)
+  pub table : IsBoundTable g service made.shapes.items test before now (table_data made.table)
 
 abbrev pub TablesService : Graph → List ℕ → Test → StoreSeen → StoreSeen → Result Tabled ServiceRefusal → Type 0
 TablesService g service test before now (Ok made) = IsTableOfService g service test before now made

@@ -23,7 +23,7 @@ loop-member-preserved c =
     let ks = c.args.members.now in
     let at = c.loop-member in
     let put = c.in_ok-push.ensures.items in
-    row_more (TellsBinding (maps_of g)) (id_of_number g) ks at.member-index (bindings_view at.bindings.items) (bindings_view c.push.new.self.items)
-    (option_map binding_data c.in_ok-binding_of.field-0) c.loop-member-test.true
+    row_more (TellsBinding (maps_of g)) (id_of_number g) ks at.member-index (bindings_view at.bindings.items)
+    (bindings_view c.push.new.self.items) (option_map binding_data c.in_ok-binding_of.field-0) c.loop-member-test.true
     (ap bindings_view put ∙ map-append (option_map binding_data) at.bindings.items (c.in_ok-binding_of.field-0 ∷ [])) at.invariant
     c.in_ok-binding_of.ensures

@@ -1,4 +1,4 @@
-use Rattle.std.proofs.Common.{[], ◌∷◌, get_or, ap, ◌∙◌}
+use Rattle.std.proofs.Common.{get_or}
 use Rattle.std.proofs.lemmas.List.Elements.{Contains-get_or}
 use Rattle.sm_model.specs.GraphView.{maps_of}
 use Rattle.sm_model.specs.Reaching.{id_of_number}
@@ -19,5 +19,5 @@ loop-member-preserved c =
     let ks = c.args.members.now in
     let at = c.loop-member in
     let put = c.in_ok-push.ensures.items in
-    row_more (TellsMedia (maps_of g)) (id_of_number g) ks at.member-index at.media.items c.push.new.self.items c.in_ok-media_of_member.field-0
-    c.loop-member-test.true put at.invariant c.in_ok-media_of_member.ensures
+    row_more (TellsMedia (maps_of g)) (id_of_number g) ks at.member-index at.media.items c.push.new.self.items
+    c.in_ok-media_of_member.field-0 c.loop-member-test.true put at.invariant c.in_ok-media_of_member.ensures

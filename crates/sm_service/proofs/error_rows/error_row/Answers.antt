@@ -8,7 +8,7 @@ pub returns : goal.returns
 returns c =
     let id = id_of_number c.args.graph.now in
     record {
-      id_is = c.in_ok-id_copy.ensures;
+      id_is = c.in_ok-id.ensures;
       number = slice_get-map id c.args.shapes.now c.row_at.result ∙ ap (option_map id) c.row_at.ensures;
       client = c.is_client.ensures;
       status = c.status_of.ensures;

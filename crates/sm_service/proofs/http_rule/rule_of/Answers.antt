@@ -9,5 +9,5 @@ returns c =
     let g = maps_of c.args.graph.now in
     let id = id_of_number c.args.graph.now c.args.operation in
     rule_said g id (is_operation g id c.requires.fields.method c.requires.fields.method_is)
-    (record { method = c.in_ok-method.method; uri = uri_said c.in_ok-uri.uri; code = c.success_code.result }) c.in_ok-method.ensures
-    c.in_ok-uri.ensures c.success_code.ensures
+    (record { method = c.in_ok-method.method; uri = uri_said c.in_ok-uri.uri; code = c.success_code-code.result }) c.in_ok-method.ensures
+    c.in_ok-uri.ensures c.success_code-code.ensures

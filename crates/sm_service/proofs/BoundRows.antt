@@ -1,5 +1,5 @@
 -- A table of a service with bindings and media types, from the one without: it says what the graph says, and is in order.
-use Rattle.std.proofs.Common.{◌≡◌, ℕ, ◌<◌, List, map, length, get_or, Option, Some, None, refl, sym, ap, ◌∙◌, subst}
+use Rattle.std.proofs.Common.{◌≡◌, ℕ, List, [], map, get_or, Option, Some, None, refl, sym, ap, ◌∙◌, subst}
 use Rattle.std.specs.Prelude.{slice_get}
 use Rattle.std.specs.List.{Contains}
 use Rattle.std.specs.Option.{option_or}
@@ -11,19 +11,20 @@ use Rattle.sm_model.specs.Relations.{HasEntry}
 use Rattle.sm_model.specs.declared.graph.Graph.{Graph}
 use Rattle.sm_shapes.specs.BindingPuts.{with_binding, with_bindings}
 use Rattle.sm_shapes.specs.Fitting.{Test}
-use Rattle.sm_shapes.specs.TableData.{BindingData, MemberData, ShapeData, TableData, binding_at, binding_in, default_node_at, default_node_in}
+use Rattle.sm_shapes.specs.TableData.{BindingData, MemberData, ShapeData, TableData, binding_at, binding_in}
+use Rattle.sm_shapes.specs.TableData.{default_node_at, default_node_in}
 use Rattle.sm_compile.specs.Answers.{StoreSeen}
-use Rattle.sm_compile.specs.Compiled.{EachSays, IsCompiled, Numbering, PatternRows, SaysMember, SaysShape}
+use Rattle.sm_compile.specs.Compiled.{EachSays, Numbering, PatternRows, SaysMember, SaysShape}
 use Rattle.sm_compile.specs.Looked.{target_in}
 use Rattle.sm_compile.specs.Sound.{trait_in, trait_of}
 use Rattle.sm_compile.specs.TraitIds.{media_type_id}
 use Rattle.sm_compile.specs.TraitNodes.{text_of}
 use Rattle.sm_compile.specs.steps.Numbered.{numbering}
 use Rattle.sm_compile.proofs.RowsAlike.{each_at}
-use Rattle.sm_service.specs.Bound.{Binds, BindsMember, BindsShape, SaysBinding}
-use Rattle.sm_service.specs.steps.BindingsTold.{AreBindingTexts, TellsBinding, TellsMedia, TellsShapeMedia, put_rows, table_bound, with_media}
+use Rattle.sm_service.specs.Bound.{BindsMember, BindsShape, SaysBinding}
+use Rattle.sm_service.specs.steps.BindingsTold.{AreBindingTexts, TellsBinding, TellsMedia, TellsShapeMedia, table_bound, with_media}
 use Rattle.sm_service.specs.steps.BindingsTold.{with_shape_media}
-use Rattle.sm_service.specs.steps.ServiceTables.{IsBoundFrom, IsTableOfShapes}
+use Rattle.sm_service.specs.steps.ServiceTables.{IsBoundFrom, IsBoundTable, IsTableOfShapes}
 use Rattle.sm_service.proofs.BindingsSaid.{binding_said, node_unbound, unbound_said}
 use Rattle.sm_service.proofs.RowsTold.{each_along, put_members, put_says, put_unseen}
 use Rattle.sm_service.proofs.StillShaped.{AreAlike, bare_member, bare_shape, still_built, still_no_default, still_shaped}
@@ -92,8 +93,8 @@ module _ (g : GraphMaps) (ps : PatternRows) (n : Numbering) where
       target_there = h.target_there;
       binding = bound.binding h.m h.there;
       media_type = tells h.m.target (ap target_in h.there) (shape_entry h.target, h.target_there)
-          ∙ ap (λ o. text_of (option_or o (trait_of g h.m.target media_type_id))) (ap (trait_in media_type_id) h.there)
-          ∙ ap (λ o. text_of (option_or (trait_in media_type_id (Some (member_entry h.m))) o))
+          ∙ ap (λ (o : Option Node). text_of (option_or o (trait_of g h.m.target media_type_id))) (ap (trait_in media_type_id) h.there)
+          ∙ ap (λ (o : Option Node). text_of (option_or (trait_in media_type_id (Some (member_entry h.m))) o))
           (ap (trait_in media_type_id) h.target_there);
     };
     apart = λ node is.
@@ -164,9 +165,8 @@ module _ (g : GraphMaps) (ps : PatternRows) (n : Numbering) where
 module _ (g : Graph) (service : List ℕ) (shapes : List ℕ) (test : Test) (before now : StoreSeen) (t : TableData)
     (plain : IsTableOfShapes g service shapes test before now t)
     (texts : (id : List ℕ) → Contains (numbering g shapes).members id → AreBindingTexts (trait_of (maps_of g) id)) where
-  pub record IsWhole (u : TableData) : Type 0 where
-    pub table : IsTableOfShapes g service shapes test before now u
-    pub binds : Binds (maps_of g) (numbering g shapes) u
+  abbrev pub IsWhole : TableData → Type 0
+  IsWhole u = IsBoundTable g service shapes test before now u
 
   abbrev n : Numbering
   n = numbering g shapes
@@ -184,7 +184,7 @@ module _ (g : Graph) (service : List ℕ) (shapes : List ℕ) (test : Test) (bef
       c.says_shapes in
       let same = alike m t.patterns n t bindings media shape_media in
       record {
-        table = record {
+        of_shapes = record {
           compiled = record {
             shapes = c.shapes;
             members = c.members;
