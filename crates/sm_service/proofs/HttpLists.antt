@@ -176,7 +176,8 @@ module _ {A : Type 0} (p : A → Bool) where
   pub at_most_one : (xs : List A) → NoTwoPass xs → count_by p xs ≤ 1
   at_most_one [] h = omega arith
   at_most_one (x ∷ xs) h =
-      subst (λ k. k ≤ 1) (sym (counted x xs)) (by (p x) refl (at_most_one xs (λ before y later is z among. h (x ∷ before) y later (ap (λ zs. x ∷ zs) is) z
+      subst (λ k. k ≤ 1) (sym (counted x xs))
+      (by (p x) refl (at_most_one xs (λ before y later is z among. h (x ∷ before) y later (ap (λ zs. x ∷ zs) is) z
       (behind_head x before z among))))
     where
       by : (b : Bool) → p x ≡ b → count_by p xs ≤ 1 → cond b 1 0 + count_by p xs ≤ 1

@@ -149,6 +149,15 @@ label_told (Some (prefix_headers prefix)) h = absurd (apart h)
 label_told (Some payload) h = absurd (apart h)
 label_told (Some response_code) h = absurd (apart h)
 
+-- where no rule fails, values of traits with a row read
+pub reads_at : (g : GraphMaps) (In : IdSet) → NoneFailsIn g In → (id : List ℕ) → In id → is_prelude_id id ≡ false → (spot : Spot)
+    → IsSpot g id spot → (trait : List ℕ) → has_row trait ≡ true → read_trait g id trait ≡ trait_of g id trait
+reads_at g In none id inside own spot stands trait row = by (trait_of g id trait) refl
+  where
+    by : (o : Option Node) → trait_of g id trait ≡ o → that_reads trait o ≡ o
+    by None is = refl
+    by (Some n) is = ap (λ b. cond b (Some n) None) (by_row g In none id inside own spot stands trait n row is)
+
 module _ (g : GraphMaps) (f : IsFormedGraph g) (In : IdSet) (none : NoneFailsIn g In) (shape : List ℕ) (s : ShapeEntry)
     (home : HasEntry g shape (shape_entry s)) (members_in : AreIn In s.members) where
   -- a shape with a member is the model's own
@@ -198,15 +207,10 @@ module _ (g : GraphMaps) (f : IsFormedGraph g) (In : IdSet) (none : NoneFailsIn 
     pub as_row : (trait : List ℕ) → has_row trait ≡ true → (n : Node) → trait_of g id trait ≡ Some n → is_as_one (rows_of trait) n ≡ true
     as_row trait row n is = by_row g In none id (members_in id among) own (at_member s.kind (fin.get g.shapes m.target)) spot trait n row is
 
-    read_all : (trait : List ℕ) → has_row trait ≡ true → read_trait g id trait ≡ trait_of g id trait
-    read_all trait row = by (trait_of g id trait) refl
-      where
-        by : (o : Option Node) → trait_of g id trait ≡ o → that_reads trait o ≡ o
-        by None is = refl
-        by (Some n) is = ap (λ b. cond b (Some n) None) (as_row trait row n is)
-
     pub read_is : (trait : List ℕ) → has_row trait ≡ true → read_trait g id trait ≡ fin.get m.traits trait
-    read_is trait row = read_all trait row ∙ ap (trait_in trait) says.there
+    read_is trait row =
+        reads_at g In none id (members_in id among) own (at_member s.kind (fin.get g.shapes m.target)) spot trait row
+        ∙ ap (trait_in trait) says.there
 
     -- no two binding traits
     one_binding : OneBinding m.traits

@@ -63,7 +63,8 @@ module _ (g : GraphMaps) (f : IsFormedGraph g) (In : IdSet) (none : NoneFailsIn 
   before_it c id rest is other among = subst (λ zs. Contains zs other) (sym is) (stands_before c id rest other among)
 
   -- at most one member carries a trait
-  no_two : (wanted : BindingTrait) → Contains single_traits (binding_id wanted) → NoTwoPass (λ (m : WireMember). is_bound_by m.binding wanted) ws
+  no_two : (wanted : BindingTrait) → Contains single_traits (binding_id wanted)
+      → NoTwoPass (λ (m : WireMember). is_bound_by m.binding wanted) ws
   no_two wanted single before x later is y among passes_y passes_x =
       let c = at_cut before x later is in
       let o = id_of Says c.first before c.each y among in

@@ -1,4 +1,5 @@
--- The inputs, outputs and errors of an operation with `http`, of a service that is ready: structures, whose members rules on bindings look at.
+-- The inputs, outputs and errors of an operation with `http`, of a service that is ready: structures, at whose members rules on bindings
+-- look.
 use Rattle.std.proofs.Common.{◌≡◌, inl, inr, ℕ, Bool, true, false, List, [], ◌∷◌, Option, Some, None, refl, sym, ap, subst, ◌∙◌}
 use Rattle.std.specs.Prelude.{codes, cond, is_some, slice_get}
 use Rattle.std.specs.List.{Contains}
@@ -224,14 +225,14 @@ module _ (g : GraphMaps) (id : List ℕ) (service : ServiceData) (r : IsReady g 
           let i = id_of (SaysError g n) (errors_said op.s of.s) o.errors op.errors e e_in in
           elim (error_said op.s of.s i.0 i.1) [
             | inl own ↦
-                let says = some_said op.s (codes "errors") Error (ap (λ kind. relation_under (codes "errors") (field_relations kind)) op.kind)
-                i.0 own in
+                let says = some_said op.s (codes "errors") Error
+                (ap (λ kind. relation_under (codes "errors") (field_relations kind)) op.kind) i.0 own in
                 let x = referred o.id op.s op.own op_inside Error i.0 e.shape says i.2.number in
                 error_of e i.0 i.1 i.2 x
                 (inl (o.id, http_operation, (shape_entry op.s, op.own.0, inr says, (shape_entry x.s, x.there))))
             | inr shared ↦
-                let says = some_said of.s (codes "errors") Error (ap (λ kind. relation_under (codes "errors") (field_relations kind)) of.kind)
-                i.0 shared in
+                let says = some_said of.s (codes "errors") Error
+                (ap (λ kind. relation_under (codes "errors") (field_relations kind)) of.kind) i.0 shared in
                 let x = referred id of.s of.own (inl refl) Error i.0 e.shape says i.2.number in
                 error_of e i.0 i.1 i.2 x
                 (inr (id, o.id, in_closure, http_operation, (shape_entry of.s, of.own.0, inr says, (shape_entry x.s, x.there))))

@@ -28,6 +28,7 @@ use Rattle.sm_service.specs.Compiled.{SaysError}
 use Rattle.sm_service.specs.HttpServable.{IsStatusOf, IsSuccessCode}
 use Rattle.sm_service.specs.WireMembers.{WireMember, stands_in_body}
 use Rattle.sm_service.specs.declared.error.ErrorShape.{ErrorShape}
+use Rattle.sm_service.proofs.HttpMembers.{reads_at}
 
 least_is : (a b : ℕ) → int_le (pos a) (pos b) ≡ true → a ≤ b
 least_is a b h = grind (arith, nat_tests)
@@ -36,8 +37,11 @@ number_is : (a b : ℕ) → Path ℤ (pos a) (pos b) → a ≡ b
 number_is a b h = cc
 
 -- a status by whose error it is
+abbrev who : List (List ℕ)
+who = codes "client" ∷ codes "server" ∷ []
+
 abbrev Either : List ℕ → Type 0
-Either t = list_any (bytes_eq t) (codes "client" ∷ codes "server" ∷ []) ≡ true
+Either t = list_any (bytes_eq t) who ≡ true
 
 server_else : (a b : Bool) → (a || (b || false)) ≡ true → a ≡ false → b ≡ true
 server_else true b h e = absurd (apart (sym e))
@@ -68,13 +72,13 @@ status_by false (Some k) t is either right =
 
 -- whose error, where the trait is there
 who_told : (o : Option Node) → is_some o ≡ true
-    → ((n : Node) → o ≡ Some n → (is_text n && list_any (bytes_eq (unwrap_or (text_in n) [])) (codes "client" ∷ codes "server" ∷ [])) ≡ true)
+    → ((n : Node) → o ≡ Some n → (is_text n && list_any (bytes_eq (unwrap_or (text_in n) [])) who) ≡ true)
     → (t : List ℕ) × (text_of o ≡ Some t) × Either t
 who_told None there right = absurd (apart there)
 who_told (Some n) there right = by (text_in n) refl (right n refl)
   where
     by : (o : Option (List ℕ)) → text_in n ≡ o
-        → (is_some o && list_any (bytes_eq (unwrap_or o [])) (codes "client" ∷ codes "server" ∷ [])) ≡ true
+        → (is_some o && list_any (bytes_eq (unwrap_or o [])) who) ≡ true
         → (t : List ℕ) × (text_in n ≡ Some t) × Either t
     by None is h = absurd (apart h)
     by (Some t) is h = (t, is, h)
@@ -84,13 +88,7 @@ module _ (g : GraphMaps) (In : IdSet) (none : NoneFailsIn g In) where
       (error : has_trait error_id s.traits ≡ true) where
     -- values of the shape's traits read
     read_all : (trait : List ℕ) → has_row trait ≡ true → read_trait g shape trait ≡ trait_of g shape trait
-    read_all trait row = by (trait_of g shape trait) refl
-      where
-        by : (o : Option Node) → trait_of g shape trait ≡ o → that_reads trait o ≡ o
-        by None is = refl
-        by (Some n) is =
-            ap (λ b. cond b (Some n) None)
-            (by_row g In none shape inside own.1 (at_shape s.kind) (of_shape (s, own, refl)) trait n row is)
+    read_all trait row = reads_at g In none shape inside own.1 (at_shape s.kind) (of_shape (s, own, refl)) trait row
 
     whose : (t : List ℕ) × (text_of (trait_of g shape error_id) ≡ Some t) × Either t
     whose =

@@ -158,7 +158,8 @@ module _ (g : GraphMaps) (service : List ℕ) (is : IsService g service) (ready 
 
   -- a map to such values
   module _ (test : Option Entry → Bool) (shown : InnerSeen → Bool)
-      (same : (id : List ℕ) (s : ShapeEntry) → IsKnown g service id s → test (Some (shape_entry s)) ≡ true → shown (inner_under g id) ≡ true)
+      (same : (id : List ℕ) (s : ShapeEntry) → IsKnown g service id s → test (Some (shape_entry s)) ≡ true
+      → shown (inner_under g id) ≡ true)
     where
       values_of_map : (home k : Kind) (u : Bool) → home ≡ model.Map → may_target home u k ≡ true → has_values k ≡ true
       values_of_map home k u kind may = first_of (has_values k) (not u) (sym (ap (λ h. may_target h u k) kind) ∙ may)

@@ -33,6 +33,7 @@ use Rattle.sm_accepted.proofs.GivenShapes.{entry_given}
 use Rattle.sm_accepted.proofs.ReadyGraphs.{sound_ready}
 use Rattle.sm_service.proofs.BareShapes.{bare_of_prelude}
 use Rattle.sm_service.proofs.ServableRows.{place_of}
+use Rattle.sm_service.proofs.ServiceReached.{no_member}
 
 -- a shape with values, of the service
 pub record IsKnown (g : GraphMaps) (service id : List ℕ) (s : ShapeEntry) : Type 0 where
@@ -104,14 +105,9 @@ module _ (g : GraphMaps) (service : List ℕ) (is : IsService g service) (ready 
   pub sound_known : (id : List ℕ) (s : ShapeEntry) → IsKnown g service id s → IsSoundShape g id s
   sound_known id s k = sound_ready g service is ready id k.inside (s, k.there, k.values) id s ([], refl) k.there
 
-  no_member : (id : List ℕ) (s : ShapeEntry) (m : MemberEntry) → HasEntry g id (shape_entry s) → HasEntry g id (member_entry m) → ⊥
-  no_member id s m shape member = apart_from (one_entry g id (shape_entry s) (member_entry m) shape member)
-    where
-      apart_from : shape_entry s ≡ member_entry m → ⊥
-      apart_from e = cc
-
   -- a step from a shape is to a member of it, and from a member to its target
-  to_member : (from next : List ℕ) (s : ShapeEntry) → has_values s.kind ≡ true → HasEntry g from (shape_entry s) → LeadsTo g from next → Contains s.members next
+  to_member : (from next : List ℕ) (s : ShapeEntry) → has_values s.kind ≡ true → HasEntry g from (shape_entry s) → LeadsTo g from next
+      → Contains s.members next
   to_member from next s values there (inl led) = by led.0 (one_entry g from (shape_entry s) led.0 there led.1) led.2
     where
       by : (e : Entry) → shape_entry s ≡ e → SaysRelated Member e next → Contains s.members next
@@ -157,9 +153,9 @@ module _ (g : GraphMaps) (service : List ℕ) (is : IsService g service) (ready 
       (subst (λ i. HasEntry g i (shape_entry out.0)) (sym same) out.1) in
       not_left_out (table_kind out.0.kind) (ap (λ (x : ShapeEntry). is_left_out (table_kind x.kind)) unit) out.2
   unit_ends (next ∷ by) left u there led out =
+      let unit = prelude_is g (ready is).formed unit_shape (20, omega arith, refl) u there in
       contains_none next (subst (λ ms. Contains ms next) (bare_of_prelude g (ready is).formed unit_id u there refl).0
-      (to_member unit_id next u (ap (λ (x : ShapeEntry). has_values x.kind) (prelude_is g (ready is).formed unit_shape (20, omega arith, refl)
-      u there)) there led.0))
+      (to_member unit_id next u (ap (λ (x : ShapeEntry). has_values x.kind) unit) there led.0))
 
   pub way_to : (by : List (List ℕ)) (from : List ℕ) (s : ShapeEntry) → IsKnown g service from s → (left : List ℕ) → LeadsBy g from by left
       → IsLeftOut g left → (way : List WayStep) × IsWay g from way
@@ -167,7 +163,7 @@ module _ (g : GraphMaps) (service : List ℕ) (is : IsService g service) (ready 
   way_to (next ∷ []) from s k left led out =
       let among = to_member from next s k.values k.there led.0 in
       let x = sound_member g s.kind s.members (sound_known from s k).each next among in
-      absurd (no_member next out.0 x.m (subst (λ i. HasEntry g i (shape_entry out.0)) (sym led.1) out.1) x.there)
+      absurd (no_member g next out.0 x.m (subst (λ i. HasEntry g i (shape_entry out.0)) (sym led.1) out.1) x.there)
   way_to (next ∷ to ∷ more) from s k left led out =
       let among = to_member from next s k.values k.there led.0 in
       let sound = sound_known from s k in
