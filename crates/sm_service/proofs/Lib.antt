@@ -22,6 +22,7 @@ mod OperationsNamed
 mod AgainPlaces
 mod OnceNumbers
 mod OperationsTold
+mod NamesReady
 mod OperationsReady
 mod ErrorsNamed
 mod OnceJoined
@@ -41,3 +42,4 @@ mod HttpServes
 mod HttpWays
 mod HttpTargets
 mod HttpBound
+mod CompiledServices

@@ -19,13 +19,16 @@ use Rattle.sm_service.specs.steps.OperationRows.{AreOperationNumbers, HaveErrorR
 use Rattle.sm_service.specs.steps.OperationRows.{operations_below}
 use Rattle.sm_service.specs.steps.ServiceTables.{AreValueShapes}
 use Rattle.sm_service.specs.steps.WalkStarts.{HasFilledNames}
+use Rattle.sm_service.proofs.ErrorsApart.{one_shape}
+use Rattle.sm_service.proofs.NamesReady.{names_filled, operation_told, operations_apart, service_told}
 use Rattle.sm_service.proofs.OperationsNamed.{marked_of, names_below, operations_told}
 
 module _ (g : Graph) (service : List ℕ) (is : IsService (maps_of g) service) (ready : Ready (maps_of g) service) where
   -- no two operations have one name
   pub one_operation : (a b : List ℕ) → IsOperationOf (maps_of g) service a → IsOperationOf (maps_of g) service b → name_part a ≡ name_part b
       → a ≡ b
-  one_operation a b h k same = ?
+  one_operation a b h k same =
+      let r = ready is in operations_apart (maps_of g) r.formed service is.0 is.1 is.2 r.none a b h k same
 
   -- so marked operations are told apart by their names, and in the order of these they are those of the service
   module _ (marks : List Bool) (are : AreMarks (length (entries_of g)) (λ k. IsOfService (maps_of g) service (id_of_number g k)) marks)
@@ -45,9 +48,12 @@ module _ (g : Graph) (service : List ℕ) (is : IsService (maps_of g) service) (
     in_name_order ns sorted =
         operations_told g marks service are ns (subst (λ xs. AreByName (name_of_number g) xs ns) below sorted)
 
+  service_kind : (v : ShapeEntry) → IsOwnShape (maps_of g) service v → v.kind ≡ Service
+  service_kind v own = ap (λ (x : ShapeEntry). x.kind) (one_shape (maps_of g) service v is.0 own.0 is.1.0) ∙ is.2
+
   -- members have names
   pub filled_names : HasFilledNames (maps_of g)
-  filled_names shape m there = ?
+  filled_names = names_filled (maps_of g) (ready is).formed
 
   module _ (shapes : List ℕ) (are : AreValueShapes g service shapes) where
     -- an operation: its input, its output and its errors are in the table
@@ -62,7 +68,10 @@ module _ (g : Graph) (service : List ℕ) (is : IsService (maps_of g) service) (
     -- no two of what an operation and the service name have one name
     pub names_tell : (id : List ℕ) → IsOperationOf (maps_of g) service id → (s v : ShapeEntry) → IsOwnShape (maps_of g) id s
         → IsOwnShape (maps_of g) service v → NamesTell (errors_named s ++ errors_named v)
-    names_tell id h s v own its = ?
+    names_tell id h s v own its =
+        let r = ready is in
+        operation_told (maps_of g) r.formed service v its (service_kind v its) r.none id h s own
 
     pub service_tell : (v : ShapeEntry) → IsOwnShape (maps_of g) service v → NamesTell (errors_named v)
-    service_tell v own = ?
+    service_tell v own =
+        let r = ready is in service_told (maps_of g) r.formed service v own (service_kind v own) r.none

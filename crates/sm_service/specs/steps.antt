@@ -7,3 +7,4 @@ pub mod WireSaid
 pub mod BindingsTold
 pub mod ServiceTables
 pub mod OperationRows
+pub mod ServicesMade

@@ -2,9 +2,10 @@
 // message pays for the model.
 #![tactic(auto)]
 
-mod closure;
 mod bound_members;
 mod bound_table;
+mod closure;
+mod compiling;
 mod error;
 mod error_order;
 mod error_rows;
@@ -19,10 +20,11 @@ mod references;
 mod refusal;
 mod served;
 mod service;
+mod serving;
 mod table;
 mod value_shapes;
-mod serving;
 
+pub use compiling::compile;
 pub use error::ErrorShape;
 pub use errors::Errors;
 pub use operation::{HttpRule, Operation};

@@ -4,7 +4,7 @@ use Rattle.sm_model.specs.Reaching.{AreMarks, id_of_number}
 use Rattle.sm_rules.specs.Ready.{IsOfService}
 use Rattle.sm_service.specs.steps.ServiceTables.{AreValueShapes}
 use Rattle.sm_service.proofs.CompiledServices.{left_behind, refused_service, service_seen}
-use Rattle.sm_service.proofs.compile.compile_service.Goals as goal
+use Rattle.sm_service.proofs.compiling.compile_service.Goals as goal
 
 pub service_table-requires-clause-marks : goal.service_table-requires-clause-marks
 service_table-requires-clause-marks g c =

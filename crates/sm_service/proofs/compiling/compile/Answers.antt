@@ -4,7 +4,7 @@ use Rattle.sm_compile.specs.Answers.{seen_store}
 use Rattle.sm_rules.specs.Ready.{Ready}
 use Rattle.sm_rules.specs.Words.{IsService}
 use Rattle.sm_service.specs.Answers.{CompilesService}
-use Rattle.sm_service.proofs.compile.compile.Goals as goal
+use Rattle.sm_service.proofs.compiling.compile.Goals as goal
 
 pub compile_service-requires-clause-service : goal.compile_service-requires-clause-service
 compile_service-requires-clause-service g c = subst (IsService (maps_of c.args.graph.now)) (sym c.in-Some.ensures.1) c.in-Some.ensures.2
