@@ -1,11 +1,11 @@
 -- Each binding that counts on a side has a target that it may have, where what the side leads to is served.
-use Rattle.std.proofs.Common.{◌≡◌, inl, inr, ℕ, Bool, true, false, List, [], ◌∷◌, Option, Some, None, refl, sym, ap, subst, ◌∙◌, arith, bytes_eq}
+use Rattle.std.proofs.Common.{◌≡◌, inl, inr, ℕ, Bool, true, false, List, ◌∷◌, Option, Some, None, refl, sym, ap, subst, ◌∙◌}
 use Rattle.std.specs.Prelude.{cond, not}
 use Rattle.std.specs.FinMap as fin
 use Rattle.std.specs.List.{Contains, list_any}
 use Rattle.std.proofs.lemmas.Option.{none-some}
 use Rattle.std.proofs.lemmas.Slice.Eq.{bytes_eq-Decides}
-use Rattle.sm_model.specs.Graphs.{Entry, GraphMaps, MemberEntry, ShapeEntry, member_entry, shape_entry}
+use Rattle.sm_model.specs.Graphs.{GraphMaps, ShapeEntry, member_entry, shape_entry}
 use Rattle.sm_model.specs.Relations.{HasEntry}
 use Rattle.sm_model.specs.declared.kind.Kind.{Kind}
 use Rattle.sm_model.specs.declared.kind.Kind.TheVariants as model
@@ -24,10 +24,10 @@ use Rattle.sm_rules.specs.Words.{IsService}
 use Rattle.sm_accepted.proofs.ClosedSets.{AreIn}
 use Rattle.sm_accepted.proofs.TraitsRight.{must}
 use Rattle.sm_service.specs.HttpServable.{HaveTargets}
-use Rattle.sm_service.specs.WireMembers.{TargetSeen, WireMember, counted_binding, is_bound_by, may_be_bound, trait_bound}
+use Rattle.sm_service.specs.WireMembers.{WireMember, is_bound_by, may_be_bound, trait_bound}
 use Rattle.sm_service.specs.steps.WireSaid.{SaysWireMember}
 use Rattle.sm_service.proofs.HttpLists.{id_of}
-use Rattle.sm_service.proofs.HttpMembers.{bound_is, is_member, target_there}
+use Rattle.sm_service.proofs.HttpMembers.{bound_is, is_member}
 use Rattle.sm_service.proofs.HttpTargets.{allowed, counts_there}
 use Rattle.sm_service.proofs.HttpWays.{IsKnown, known_target, sound_known, sound_member, target_in_entry, way_to}
 

@@ -1,5 +1,5 @@
 -- Labels of the pattern of an operation and members of its input that are bound to one are the same by name, where no rule fails.
-use Rattle.std.proofs.Common.{◌≡◌, ◌⊎◌, inl, inr, ℕ, Bool, true, false, ◌&&◌, ◌++◌, List, [], ◌∷◌, length, drop, Option, Some, None, refl, sym}
+use Rattle.std.proofs.Common.{◌≡◌, ◌⊎◌, inl, inr, ℕ, Bool, true, false, List, [], ◌∷◌, length, drop, Some, refl, sym}
 use Rattle.std.proofs.Common.{ap, subst, ◌∙◌, arith, bytes_eq, append_assoc}
 use Rattle.std.specs.FinMap as fin
 use Rattle.std.specs.List.{Contains}
@@ -16,13 +16,11 @@ use Rattle.sm_model.proofs.LinkedEntries.{cons_cases, cons_here}
 use Rattle.sm_model.proofs.NumberedIds.{one_entry}
 use Rattle.sm_model.proofs.Worklist.{apart}
 use Rattle.sm_shapes.specs.TableData.{label}
-use Rattle.sm_shapes.specs.declared.kinds.ShapeKind.{ShapeKind}
 use Rattle.sm_shapes.specs.declared.kinds.ShapeKind.TheVariants as table
 use Rattle.sm_compile.specs.Compiled.{EachSays, IdSet}
 use Rattle.sm_compile.specs.Kinds.{table_kind}
 use Rattle.sm_compile.specs.Looked.{kind_in}
 use Rattle.sm_compile.specs.TraitIds.{required_id}
-use Rattle.sm_compile.proofs.SoundTests.{first_of, second_of}
 use Rattle.sm_uri.specs.UriPattern.{UriSaid, greedy_names, label_names}
 use Rattle.sm_rules.specs.Bindings.{a_label, has_binding, is_string, passes}
 use Rattle.sm_rules.specs.Http.{HasLabelled, HasUri, IsLabelled, TakesLabels, greedy_target, no_label, no_member, not_required}

@@ -5,7 +5,6 @@ use Rattle.std.specs.Prelude.{filter_map}
 use Rattle.std.specs.List.{Contains, cons_option, count_by, list_any}
 use Rattle.std.proofs.lemmas.List.Sums.{sum_by-cons}
 use Rattle.std.proofs.lemmas.List.Elements.{Contains-append_left, Contains-append_right}
-use Rattle.std.proofs.lemmas.Option.{none-some, same_Some}
 use Rattle.sm_model.proofs.LinkedEntries.{cons_cases, cons_here}
 use Rattle.sm_model.proofs.Worklist.{apart}
 use Rattle.sm_shapes.specs.Names.{AllDiffer, NoneIs}

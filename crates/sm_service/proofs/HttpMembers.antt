@@ -1,5 +1,5 @@
 -- What the members of a shape of a service that is ready carry of HTTP bindings: what the table shows of each is what the rules look at.
-use Rattle.std.proofs.Common.{◌≡◌, inl, inr, ℕ, Bool, true, false, not, ◌||◌, cond, List, [], ◌∷◌, Option, Some, None, refl, sym, ap, subst, ◌∙◌}
+use Rattle.std.proofs.Common.{◌≡◌, ℕ, Bool, true, false, not, ◌||◌, cond, List, [], ◌∷◌, Option, Some, None, refl, sym, ap, subst, ◌∙◌}
 use Rattle.std.proofs.Common.{arith, bytes_eq}
 use Rattle.std.specs.Prelude.{is_some}
 use Rattle.std.specs.Cmp.Lexicographic.{nat_list_cmp_total}
@@ -21,7 +21,6 @@ use Rattle.sm_model.proofs.OneRising.{contains_none}
 use Rattle.sm_model.proofs.Worklist.{apart}
 use Rattle.sm_shapes.specs.TableData.{BindingData, label, query, query_params, header, prefix_headers, payload, response_code}
 use Rattle.sm_compile.specs.Compiled.{IdSet}
-use Rattle.sm_compile.specs.Said.{is_bound}
 use Rattle.sm_compile.specs.Sound.{trait_in, trait_of}
 use Rattle.sm_compile.specs.TraitIds.{binding_ids, http_header_id, http_prefix_headers_id, http_query_id}
 use Rattle.sm_compile.specs.TraitNodes.{text_of}
@@ -37,7 +36,7 @@ use Rattle.sm_accepted.proofs.ClosedSets.{AreIn}
 use Rattle.sm_accepted.proofs.FormedShapes.{member_own}
 use Rattle.sm_accepted.proofs.TraitsRight.{by_row}
 use Rattle.sm_service.specs.Bound.{SaysBinding}
-use Rattle.sm_service.specs.WireMembers.{WireMember, counted_binding, header_of, is_bound_by, prefix_of, query_of, stands_in_body}
+use Rattle.sm_service.specs.WireMembers.{WireMember, header_of, is_bound_by, prefix_of, query_of, stands_in_body}
 use Rattle.sm_service.specs.WireMembers.{stands_in_document, trait_bound}
 use Rattle.sm_service.specs.steps.WireSaid.{SaysWireMember}
 use Rattle.sm_service.proofs.BareShapes.{bare_of_prelude}

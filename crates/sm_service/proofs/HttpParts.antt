@@ -1,14 +1,14 @@
 -- The members of an input, an output or an error of a service that is ready each have their own parts of a message.
-use Rattle.std.proofs.Common.{◌≡◌, inl, inr, ℕ, Bool, true, false, not, ◌++◌, List, [], ◌∷◌, map, Option, Some, None, refl, sym, ap, subst, ◌∙◌}
+use Rattle.std.proofs.Common.{◌≡◌, ℕ, true, not, ◌++◌, List, [], ◌∷◌, map, Option, Some, None, refl, sym, ap, subst, ◌∙◌}
 use Rattle.std.proofs.Common.{arith, bytes_eq}
-use Rattle.std.specs.Prelude.{filter_map, is_some}
+use Rattle.std.specs.Prelude.{is_some}
 use Rattle.std.specs.FinMap as fin
 use Rattle.std.specs.Option.{unwrap_or}
-use Rattle.std.specs.List.{Contains, list_any}
+use Rattle.std.specs.List.{Contains}
 use Rattle.std.specs.Str.{str_eq_ignore_ascii_case, str_to_ascii_lowercase}
-use Rattle.std.proofs.lemmas.Option.{none-some, same_Some}
+use Rattle.std.proofs.lemmas.Option.{none-some}
 use Rattle.std.proofs.lemmas.Slice.Eq.{bytes_eq-Decides}
-use Rattle.sm_tree.specs.Node.{Node, text}
+use Rattle.sm_tree.specs.Node.{Node}
 use Rattle.sm_tree.specs.Parts.{text_in}
 use Rattle.sm_model.specs.FormedGraph.{IsFormedGraph}
 use Rattle.sm_model.specs.Graphs.{GraphMaps, ShapeEntry, shape_entry}
@@ -18,22 +18,21 @@ use Rattle.sm_model.proofs.Worklist.{apart}
 use Rattle.sm_shapes.specs.Names.{AllDiffer}
 use Rattle.sm_compile.specs.Compiled.{EachSays, IdSet}
 use Rattle.sm_compile.specs.Sound.{trait_in, trait_of}
-use Rattle.sm_compile.specs.TraitIds.{http_payload_id, http_prefix_headers_id, http_query_id, http_query_params_id, http_response_code_id}
+use Rattle.sm_compile.specs.TraitIds.{http_payload_id, http_query_id}
 use Rattle.sm_compile.specs.TraitNodes.{text_of}
 use Rattle.sm_compile.proofs.SoundTests.{second_of}
-use Rattle.sm_rules.specs.Bindings.{BindingTrait, BoundSide, IsBound, a_payload, a_response_code, an_input, binding_id, has_binding}
+use Rattle.sm_rules.specs.Bindings.{BindingTrait, BoundSide, IsBound, a_payload, a_response_code, an_input, binding_id}
 use Rattle.sm_rules.specs.Bindings.{some_prefix_headers, some_query_params}
 use Rattle.sm_rules.specs.Http.{beside_payload}
 use Rattle.sm_rules.specs.Ready.{NoneFailsIn}
 use Rattle.sm_rules.specs.Traits.{single_traits}
 use Rattle.sm_rules.specs.TraitRows.{has_none}
 use Rattle.sm_rules.specs.WireNames.{has_prefix, header_again, header_name, query_again, query_name}
-use Rattle.sm_rules.specs.Words.{IsOwnShape}
 use Rattle.sm_accepted.proofs.ClosedSets.{AreIn}
 use Rattle.sm_accepted.proofs.TraitsRight.{or_false}
 use Rattle.sm_service.specs.HttpServable.{BeginsWithSome, HaveOwnParts, HaveOwnQueries, IsBodyAlone, IsBoundOnce, headers_among, prefixes_among}
 use Rattle.sm_service.specs.HttpServable.{queries_among}
-use Rattle.sm_service.specs.WireMembers.{WireMember, header_of, is_bound_by, prefix_of, query_of, stands_in_document}
+use Rattle.sm_service.specs.WireMembers.{WireMember, header_of, is_bound_by, prefix_of, query_of}
 use Rattle.sm_service.specs.steps.WireSaid.{SaysWireMember}
 use Rattle.sm_service.proofs.HttpLists.{IsCut, NoTwoPass, NoneAgain, all_differ, any_passes, at_most_one, cut, found_among, id_of, map_same}
 use Rattle.sm_service.proofs.HttpLists.{stands_at, stands_before}

@@ -1,10 +1,9 @@
 -- What HTTP bindings ask of an operation with `http` holds of a service that is ready.
-use Rattle.std.proofs.Common.{◌≡◌, ℕ, true, List, [], ◌∷◌, map, Option, Some, refl, sym, subst, ◌∙◌, arith}
+use Rattle.std.proofs.Common.{◌≡◌, ℕ, true, List, [], ◌∷◌, map, Some, refl, sym, subst, ◌∙◌, arith}
 use Rattle.std.specs.Prelude.{codes}
 use Rattle.std.specs.List.{Contains}
 use Rattle.sm_model.specs.Graphs.{GraphMaps}
 use Rattle.sm_shapes.specs.InOrder.{Shaped}
-use Rattle.sm_compile.specs.Compiled.{EachSays}
 use Rattle.sm_compile.specs.Served.{IsServed}
 use Rattle.sm_compile.specs.declared.compiled.Served.TheVariants.{Yes}
 use Rattle.sm_compile.proofs.TabledShapes.{mapped_to}
@@ -13,7 +12,7 @@ use Rattle.sm_rules.specs.Http.{HasOutputBody}
 use Rattle.sm_rules.specs.Ready.{IsReady}
 use Rattle.sm_accepted.proofs.GivenShapes.{behind_head}
 use Rattle.sm_service.specs.Compiled.{IsServiceOf, SaysOperation}
-use Rattle.sm_service.specs.HttpServable.{AreBoundRight, HaveTargets, HttpServable, IsHttpServable, IsStatusOf}
+use Rattle.sm_service.specs.HttpServable.{AreBoundRight, HaveTargets, IsHttpServable, IsStatusOf}
 use Rattle.sm_service.specs.Laws.{HttpServableWhereReady}
 use Rattle.sm_service.specs.References.{errors_said}
 use Rattle.sm_service.specs.ServedOperation.{TellsAllServed, WalkRoot, error_root, walk_root, walk_roots}

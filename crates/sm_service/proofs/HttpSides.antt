@@ -1,7 +1,7 @@
 -- The inputs, outputs and errors of an operation with `http`, of a service that is ready: structures, at whose members rules on bindings
 -- look.
-use Rattle.std.proofs.Common.{◌≡◌, inl, inr, ℕ, Bool, true, false, List, [], ◌∷◌, Option, Some, None, refl, sym, ap, subst, ◌∙◌}
-use Rattle.std.specs.Prelude.{codes, cond, is_some, slice_get}
+use Rattle.std.proofs.Common.{◌≡◌, inl, inr, ℕ, true, List, Option, Some, None, refl, sym, ap, subst, ◌∙◌}
+use Rattle.std.specs.Prelude.{codes, is_some, slice_get}
 use Rattle.std.specs.List.{Contains}
 use Rattle.std.proofs.lemmas.Option.{none-some}
 use Rattle.sm_tree.specs.Node.{Node}
@@ -21,7 +21,7 @@ use Rattle.sm_compile.specs.TraitNodes.{text_of}
 use Rattle.sm_compile.proofs.SoundTests.{first_of, second_of}
 use Rattle.sm_rules.specs.Bindings.{BoundSide, IsBound, IsHttpOperation, an_error, an_input, an_output}
 use Rattle.sm_rules.specs.Ready.{IsOfService, IsReady}
-use Rattle.sm_rules.specs.Targets.{by_body, may_be_in_body, may_be_referred}
+use Rattle.sm_rules.specs.Targets.{by_body, may_be_referred}
 use Rattle.sm_rules.specs.TraitRows.{is_kind, that_reads}
 use Rattle.sm_rules.specs.Words.{IsInClosure, IsOperation, IsOwnShape, IsService, field_in, has_trait}
 use Rattle.sm_accepted.proofs.ClosedSets.{AreIn, members_inside, service_closed}
@@ -31,7 +31,7 @@ use Rattle.sm_service.specs.Compiled.{IsServiceOf, SaysError, SaysHttp, SaysHttp
 use Rattle.sm_service.specs.HttpServable.{HaveOwnParts}
 use Rattle.sm_service.specs.References.{errors_said}
 use Rattle.sm_service.specs.ServiceData.{HttpData, OperationData, ServiceData}
-use Rattle.sm_service.specs.WireMembers.{WireMember, wire_members}
+use Rattle.sm_service.specs.WireMembers.{wire_members}
 use Rattle.sm_service.specs.declared.error.ErrorShape.{ErrorShape}
 use Rattle.sm_service.specs.steps.WireSaid.{SaysWireMember}
 use Rattle.sm_service.proofs.ErrorsApart.{own_error, structure_kind}

@@ -1,12 +1,11 @@
 -- The status of a success, and those of errors, are of their side where no rule fails; and a status without a body has none.
 use Rattle.std.proofs.Common.{◌≡◌, ◌⊎◌, inl, inr, ℕ, ℤ, pos, ◌≤◌, Bool, true, false, not, ◌&&◌, ◌||◌, List, [], ◌∷◌, Option, Some, None, refl, sym}
 use Rattle.std.proofs.Common.{ap, subst, ◌∙◌, arith, bytes_eq}
-use Rattle.std.specs.Prelude.{codes, cond, int_le, is_some}
+use Rattle.std.specs.Prelude.{codes, int_le, is_some}
 use Rattle.std.specs.Fmt.{signed_decimal}
 use Rattle.std.specs.List.{Contains, list_any}
 use Rattle.std.specs.Option.{option_map, unwrap_or}
 use Rattle.std.proofs.lemmas.Bool.Decides.{nat_tests}
-use Rattle.std.proofs.lemmas.Option.{none-some, same_Some}
 use Rattle.sm_tree.specs.Node.{Node}
 use Rattle.sm_tree.specs.Parts.{text_in}
 use Rattle.sm_model.specs.Graphs.{GraphMaps, ShapeEntry}
@@ -20,7 +19,7 @@ use Rattle.sm_compile.proofs.SoundTests.{first_of, second_of}
 use Rattle.sm_rules.specs.Bindings.{an_output}
 use Rattle.sm_rules.specs.Http.{HasOutputBody, forbids_body, is_from_to, is_status_of, success_code_of, wrong_code, wrong_status}
 use Rattle.sm_rules.specs.Ready.{NoneFailsIn}
-use Rattle.sm_rules.specs.TraitRows.{at_shape, has_row, that_reads}
+use Rattle.sm_rules.specs.TraitRows.{at_shape, has_row}
 use Rattle.sm_rules.specs.Traits.{of_shape}
 use Rattle.sm_rules.specs.Words.{IsOperation, IsOwnShape, has_trait, read_trait}
 use Rattle.sm_accepted.proofs.TraitsRight.{by_row, must, or_false}

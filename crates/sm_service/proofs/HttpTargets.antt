@@ -1,35 +1,33 @@
 -- What rules allow a binding to target is what it may target in a table.
-use Rattle.std.proofs.Common.{◌≡◌, inl, inr, ℕ, Bool, true, false, not, ◌&&◌, ◌||◌, List, [], ◌∷◌, map, Option, Some, None, refl, sym, ap, subst}
+use Rattle.std.proofs.Common.{◌≡◌, ℕ, Bool, true, false, not, ◌&&◌, ◌||◌, List, [], ◌∷◌, map, Option, Some, refl, sym, ap, subst}
 use Rattle.std.proofs.Common.{◌∙◌, arith}
 use Rattle.std.specs.Prelude.{codes, is_some}
-use Rattle.std.specs.FinMap as fin
 use Rattle.std.specs.List.{Contains, list_all, list_any}
 use Rattle.std.specs.Option.{unwrap_or}
 use Rattle.sm_model.specs.Formed.{HaveForm}
-use Rattle.sm_model.specs.Graphs.{Entry, GraphMaps, MemberEntry, ShapeEntry, member_entry, member_id, shape_entry}
+use Rattle.sm_model.specs.Graphs.{Entry, GraphMaps, ShapeEntry, member_id, shape_entry}
 use Rattle.sm_model.specs.Kinds.{member_form}
 use Rattle.sm_model.specs.Relations.{HasEntry}
 use Rattle.sm_model.specs.declared.kind.Kind.{Kind}
 use Rattle.sm_model.specs.declared.kind.Kind.TheVariants as model
-use Rattle.sm_model.proofs.LinkedEntries.{cons_here}
 use Rattle.sm_model.proofs.Worklist.{apart}
 use Rattle.sm_shapes.specs.TableData.{BindingData, label, query, query_params, header, prefix_headers, payload, response_code}
 use Rattle.sm_shapes.specs.declared.kinds.ShapeKind.{ShapeKind}
 use Rattle.sm_compile.specs.Compiled.{members_in, members_under}
 use Rattle.sm_compile.specs.Kinds.{has_values, may_target, members_of_kind, table_kind}
 use Rattle.sm_compile.specs.Looked.{kind_in, target_in}
-use Rattle.sm_compile.specs.Sound.{AreSoundMembers, IsSoundMember, IsSoundShape, trait_in, trait_of}
+use Rattle.sm_compile.specs.Sound.{AreSoundMembers, IsSoundMember, trait_in, trait_of}
 use Rattle.sm_compile.specs.TraitIds.{sparse_id}
 use Rattle.sm_compile.proofs.SoundTests.{first_of, second_of}
-use Rattle.sm_rules.specs.Bindings.{BindingTrait, BoundSide, a_header, a_label, a_payload, a_query, a_response_code, allows_target, an_error}
+use Rattle.sm_rules.specs.Bindings.{BoundSide, allows_target, an_error}
 use Rattle.sm_rules.specs.Bindings.{an_input, an_output, bindings_of, have_strings_to, is_list_of, is_map_to, is_one_or_list, is_one_text}
-use Rattle.sm_rules.specs.Bindings.{is_payload, is_string, passes, some_prefix_headers, some_query_params, target_passes, targets}
+use Rattle.sm_rules.specs.Bindings.{is_payload, is_string, passes, target_passes, targets}
 use Rattle.sm_rules.specs.Ready.{Ready}
 use Rattle.sm_rules.specs.TraitRows.{is_kind}
 use Rattle.sm_rules.specs.Words.{IsService, has_trait}
-use Rattle.sm_service.specs.WireMembers.{InnerSeen, TargetSeen, have_string_keys, inner_of, is_bound_by, is_integer_kind, is_list_kind, is_map_kind}
+use Rattle.sm_service.specs.WireMembers.{InnerSeen, have_string_keys, inner_of, is_bound_by, is_integer_kind, is_list_kind, is_map_kind}
 use Rattle.sm_service.specs.WireMembers.{is_map_of, is_one_or_list_of, is_one_text_kind, is_payload_kind, is_string_kind, may_be_bound}
-use Rattle.sm_service.specs.WireMembers.{counted_binding, trait_bound}
+use Rattle.sm_service.specs.WireMembers.{trait_bound}
 use Rattle.sm_service.specs.steps.WireSaid.{inner_under, kind_in_table, kind_said, target_seen_under, targeted}
 use Rattle.sm_service.proofs.HttpWays.{IsKnown, known_target, sound_known}
 

@@ -1,7 +1,7 @@
 -- Where members and targets lead to a value that isn't carried, a way leads to it.
-use Rattle.std.proofs.Common.{◌≡◌, ◌⊎◌, inl, inr, ℕ, Bool, true, false, not, ◌&&◌, List, [], ◌∷◌, map, Option, Some, None, refl, sym, ap, subst}
+use Rattle.std.proofs.Common.{◌≡◌, ◌⊎◌, inl, inr, ℕ, Bool, true, false, not, ◌&&◌, List, [], ◌∷◌, map, Some, refl, sym, ap, subst}
 use Rattle.std.proofs.Common.{◌∙◌, arith, bytes_eq}
-use Rattle.std.specs.Prelude.{cond, slice_get}
+use Rattle.std.specs.Prelude.{cond}
 use Rattle.std.specs.List.{Contains}
 use Rattle.std.proofs.lemmas.Option.{none-some}
 use Rattle.std.proofs.lemmas.Slice.Eq.{bytes_eq-Decides}
@@ -20,16 +20,15 @@ use Rattle.sm_model.proofs.OneRising.{contains_none}
 use Rattle.sm_model.proofs.Worklist.{apart}
 use Rattle.sm_shapes.specs.declared.kinds.ShapeKind.{ShapeKind}
 use Rattle.sm_shapes.specs.declared.kinds.ShapeKind.TheVariants as table
-use Rattle.sm_compile.specs.Kinds.{has_value_members, has_values, is_left_out, may_target, members_of_kind, table_kind, value_members}
+use Rattle.sm_compile.specs.Kinds.{has_value_members, has_values, is_left_out, may_target, table_kind, value_members}
 use Rattle.sm_compile.specs.Reached.{LeadsBy, LeadsTo}
-use Rattle.sm_compile.specs.Served.{IsLeftOut, IsStep, IsWay, WayStep}
+use Rattle.sm_compile.specs.Served.{IsLeftOut, IsWay, WayStep}
 use Rattle.sm_compile.specs.Sound.{AreSoundMembers, IsSoundMember, IsSoundShape}
 use Rattle.sm_compile.proofs.SoundTests.{first_of}
 use Rattle.sm_rules.specs.Ready.{IsOfService, Ready}
 use Rattle.sm_rules.specs.Words.{IsService}
 use Rattle.sm_accepted.proofs.ClosedSets.{service_closed}
 use Rattle.sm_accepted.proofs.FormedShapes.{prelude_is}
-use Rattle.sm_accepted.proofs.GivenShapes.{entry_given}
 use Rattle.sm_accepted.proofs.ReadyGraphs.{sound_ready}
 use Rattle.sm_service.proofs.BareShapes.{bare_of_prelude}
 use Rattle.sm_service.proofs.ServableRows.{place_of}
