@@ -24,7 +24,8 @@ use Rattle.sm_compile.specs.Compiled.{IdSet}
 use Rattle.sm_compile.specs.Sound.{trait_in, trait_of}
 use Rattle.sm_compile.specs.TraitIds.{binding_ids, http_header_id, http_prefix_headers_id, http_query_id}
 use Rattle.sm_compile.specs.TraitNodes.{text_of}
-use Rattle.sm_rules.specs.Bindings.{BindingTrait, BoundSide, a_header, a_label, a_payload, a_query, a_response_code, binding_id, bindings_of}
+use Rattle.sm_rules.specs.Bindings.{BindingTrait, BoundSide, a_header, a_label, a_payload, a_query, a_response_code, binding_id}
+use Rattle.sm_rules.specs.Bindings.{bindings_of}
 use Rattle.sm_rules.specs.Bindings.{has_binding, is_in_body, is_in_document, some_prefix_headers, some_query_params}
 use Rattle.sm_rules.specs.Ready.{NoneFailsIn}
 use Rattle.sm_rules.specs.Targets.{by_member}

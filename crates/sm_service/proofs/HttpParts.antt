@@ -30,7 +30,8 @@ use Rattle.sm_rules.specs.TraitRows.{has_none}
 use Rattle.sm_rules.specs.WireNames.{has_prefix, header_again, header_name, query_again, query_name}
 use Rattle.sm_accepted.proofs.ClosedSets.{AreIn}
 use Rattle.sm_accepted.proofs.TraitsRight.{or_false}
-use Rattle.sm_service.specs.HttpServable.{BeginsWithSome, HaveOwnParts, HaveOwnQueries, IsBodyAlone, IsBoundOnce, headers_among, prefixes_among}
+use Rattle.sm_service.specs.HttpServable.{BeginsWithSome, HaveOwnParts, HaveOwnQueries, IsBodyAlone, IsBoundOnce, headers_among}
+use Rattle.sm_service.specs.HttpServable.{prefixes_among}
 use Rattle.sm_service.specs.HttpServable.{queries_among}
 use Rattle.sm_service.specs.WireMembers.{WireMember, header_of, is_bound_by, prefix_of, query_of}
 use Rattle.sm_service.specs.steps.WireSaid.{SaysWireMember}

@@ -25,7 +25,8 @@ use Rattle.sm_service.proofs.HttpLabels.{are_labelled}
 use Rattle.sm_service.proofs.HttpLists.{id_of}
 use Rattle.sm_service.proofs.HttpMembers.{body_is, is_member}
 use Rattle.sm_service.proofs.HttpParts.{own_queries}
-use Rattle.sm_service.proofs.HttpSides.{In, IsErrorSide, IsSide, error_side, input_related, input_side, is_operation, is_service, op, op_inside}
+use Rattle.sm_service.proofs.HttpSides.{In, IsErrorSide, IsSide, error_side, input_related, input_side, is_operation, is_service, op}
+use Rattle.sm_service.proofs.HttpSides.{op_inside}
 use Rattle.sm_service.proofs.HttpSides.{output_related, output_side, rule, side_members, side_parts, side_says}
 use Rattle.sm_service.proofs.HttpStatuses.{status_of_error, success_code}
 

@@ -119,19 +119,15 @@ module _ (g : GraphMaps) (f : IsFormedGraph g) (service : List ℕ) (v : ShapeEn
         there = there;
         may_not = refl;
       })))
-      by (Some (shape_entry s)) there = (
-        s,
-        there,
-        must (may_be_referred relation s) (λ wrong. none.kinds from id inside (by_body (record {
-          s = r;
-          own = mine;
-          relation = relation;
-          says = says;
-          e = shape_entry s;
-          there = there;
-          may_not = wrong;
-        }))),
-      )
+      by (Some (shape_entry s)) there = (s, there, must (may_be_referred relation s) (λ wrong. none.kinds from id inside (by_body (record {
+        s = r;
+        own = mine;
+        relation = relation;
+        says = says;
+        e = shape_entry s;
+        there = there;
+        may_not = wrong;
+      }))))
 
   -- an error that is referred to
   pub error_there : (from : List ℕ) (r : ShapeEntry) → IsOwnShape g from r → IsOfService g service from → (id : List ℕ)

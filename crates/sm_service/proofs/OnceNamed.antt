@@ -200,8 +200,8 @@ module _ {D : Type 0} (Says : List ℕ → D → Type 0) (p : List ℕ → Bool)
           let above : suc k ≤ q = more_than k q r.0 other.1 in
           let rises : RiseBetween (suc k) (k + suc (length es)) (q ∷ qs) = (above, r.1, r.2) in
           let passes : p id ≡ true = not_false (p id) (λ fails.
-          none_below (suc k) (k + suc (length es)) k (q ∷ qs) rises (omega arith)
-          (subst (Contains (q ∷ qs)) (first_place k) ((f 0 id refl).0 fails))) in
+              none_below (suc k) (k + suc (length es)) k (q ∷ qs) rises (omega arith)
+              (subst (Contains (q ∷ qs)) (first_place k) ((f 0 id refl).0 fails))) in
           subst (λ b. EachSays Says (cond (p id) (id ∷ filter p ids) (filter p ids)) (cond b (but_at qs (suc k) es) (e ∷ but_at (q ∷ qs) (suc k) es)))
           (sym other.0)
           (subst (λ b. EachSays Says (cond b (id ∷ filter p ids) (filter p ids)) (e ∷ but_at (q ∷ qs) (suc k) es)) (sym passes)

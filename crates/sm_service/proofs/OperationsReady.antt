@@ -40,9 +40,9 @@ module _ (g : Graph) (service : List ℕ) (is : IsService (maps_of g) service) (
     names_differ =
         subst (λ ns. AllDiffer (map (name_of_number g) ns)) (sym below)
         (names_below g marks (length (entries_of g)) (λ a b x y same.
-        let h = marked_of g marks service are a x in
-        let k = marked_of g marks service are b y in
-        same_number g a b h.0 k.0 (one_operation (id_of_number g a) (id_of_number g b) h.1 k.1 same)))
+            let h = marked_of g marks service are a x in
+            let k = marked_of g marks service are b y in
+            same_number g a b h.0 k.0 (one_operation (id_of_number g a) (id_of_number g b) h.1 k.1 same)))
 
     pub in_name_order : (ns : List ℕ) → AreByName (name_of_number g) ks ns → AreOperationNumbers g service ns
     in_name_order ns sorted =

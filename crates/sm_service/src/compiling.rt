@@ -64,24 +64,11 @@ fn compile_service<P: Patterns>(
         Ok(marks) => marks,
         Err(_) => return Err(ServiceRefusal::NoMemory),
     };
-    let Tabled { table, shapes } = match service_table(
-        alloc,
-        graph,
-        service,
-        marks.as_slice(),
-        patterns,
-    ) {
+    let Tabled { table, shapes } = match service_table(alloc, graph, service, marks.as_slice(), patterns) {
         Ok(tabled) => tabled,
         Err(refusal) => return Err(refusal),
     };
-    match with_operations(
-        alloc,
-        graph,
-        service,
-        marks.as_slice(),
-        shapes.as_slice(),
-        table,
-    ) {
+    match with_operations(alloc, graph, service, marks.as_slice(), shapes.as_slice(), table) {
         Ok(made) => Ok(made),
         Err(_) => Err(ServiceRefusal::NoMemory),
     }

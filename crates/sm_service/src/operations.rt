@@ -105,9 +105,7 @@ fn operation_rows(
     let mut room = WayRoom::new(alloc, graph)?;
     let mut rows = Vec::with_capacity(alloc, operations.len())?;
     for operation in operations {
-        match operation_row(
-            alloc, graph, shapes, known, *operation, &mut marks, &mut room,
-        ) {
+        match operation_row(alloc, graph, shapes, known, *operation, &mut marks, &mut room) {
             Ok(row) => rows.push(row)?,
             Err(refusal) => return Err(refusal),
         }
