@@ -34,4 +34,14 @@ mod SaidReferences
 mod ErrorsApart
 mod HeaderTokens
 mod ServableServices
+mod HttpLists
+mod HttpMembers
+mod HttpParts
+mod HttpSides
+mod HttpStatuses
+mod HttpLabels
+mod HttpServes
+mod HttpWays
+mod HttpTargets
+mod HttpBound
 mod CompiledServices

@@ -51,7 +51,7 @@ reaches_on g (next ∷ more) from last to walk step =
     let rest = reaches_on g more next last to walk.1 step in (next ∷ rest.0, (walk.0, rest.1))
 
 -- an id is a shape's or a member's
-no_member : (g : GraphMaps) (id : List ℕ) (s : ShapeEntry) (m : MemberEntry) → HasEntry g id (shape_entry s)
+pub no_member : (g : GraphMaps) (id : List ℕ) (s : ShapeEntry) (m : MemberEntry) → HasEntry g id (shape_entry s)
     → HasEntry g id (member_entry m) → ⊥
 no_member g id s m shape member = apart_from (one_entry g id (shape_entry s) (member_entry m) shape member)
   where

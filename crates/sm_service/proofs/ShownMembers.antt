@@ -1,27 +1,22 @@
 -- The table of a service shows to HTTP bindings the list of members that the graph shows.
-use Rattle.std.proofs.Common.{◌≡◌, ℕ, zero, suc, ◌+◌, ◌<◌, Bool, List, [], ◌∷◌, Option, Some, None, map, length, get_or, refl, sym, ap, ◌∙◌, subst}
+use Rattle.std.proofs.Common.{◌≡◌, ℕ, zero, suc, ◌<◌, Bool, List, [], ◌∷◌, Some, map, length, get_or, refl, sym, ap, ◌∙◌, subst}
 use Rattle.std.proofs.Common.{arith}
 use Rattle.std.specs.Prelude.{is_some, slice_get}
 use Rattle.std.specs.Option.{unwrap_or}
-use Rattle.std.specs.FinMap as fin
 use Rattle.std.proofs.lemmas.Option.{none-some, same_Some}
-use Rattle.sm_model.specs.Graphs.{Entry, GraphMaps, MemberEntry, ShapeEntry, member_entry, member_id, shape_entry}
-use Rattle.sm_model.proofs.NumberedIds.{one_entry}
+use Rattle.sm_model.specs.Graphs.{GraphMaps, member_id}
 use Rattle.sm_shapes.specs.InOrder.{AreMembersOf, Shaped}
 use Rattle.sm_shapes.specs.TableData.{MemberData, ShapeData, TableData, binding_in, home_at, home_in, kind_at, member_count, members_at, name_in}
 use Rattle.sm_shapes.specs.TableData.{required_in, sparse_at, target_at}
 use Rattle.sm_shapes.specs.TableData as table
 use Rattle.sm_shapes.specs.declared.kinds.ShapeKind.{ShapeKind}
 use Rattle.sm_compile.specs.Compiled.{EachSays, IdSet, IsCompiled, Numbering, SaysMember, SaysShape, members_in, members_under}
-use Rattle.sm_compile.specs.Kinds.{table_kind, value_members}
 use Rattle.sm_compile.specs.Looked.{kind_in, target_in}
 use Rattle.sm_compile.specs.Sound.{trait_in, trait_of}
 use Rattle.sm_compile.specs.TraitIds.{required_id, sparse_id}
 use Rattle.sm_rules.specs.Ready.{IsOfService}
 use Rattle.sm_service.specs.Bound.{Binds, BindsMember, SaysBinding}
-use Rattle.sm_service.specs.Compiled.{IsServiceOf}
-use Rattle.sm_service.specs.ServiceData.{ServiceData}
-use Rattle.sm_service.specs.WireMembers.{InnerSeen, TargetSeen, WireMember, inner_at, target_seen_at, wire_member_at, wire_members}
+use Rattle.sm_service.specs.WireMembers.{InnerSeen, TargetSeen, inner_at, target_seen_at, wire_member_at, wire_members}
 use Rattle.sm_service.specs.steps.WireSaid.{SaysWireMember, ShowsMembers, inner_under, kind_in_table, kind_said, target_seen_under, targeted}
 
 -- what is said of the one at a place
