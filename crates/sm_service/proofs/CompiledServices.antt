@@ -19,6 +19,7 @@ use Rattle.sm_service.specs.declared.refusal.ServiceRefusal.TheVariants.{NoMemor
 use Rattle.sm_service.specs.declared.service.Service.{Service}
 use Rattle.sm_service.specs.steps.ServicesMade.{IsServiceFrom}
 use Rattle.sm_service.specs.steps.ServiceTables.{IsBoundTable, TablesService}
+use Rattle.sm_service.proofs.HttpServes.{http_servable}
 use Rattle.sm_service.proofs.ServableServices.{servable_ready}
 
 module _ (g : Graph) (id : List ℕ) (test : Test) (before now : StoreSeen) (is : IsService (maps_of g) id) where
@@ -59,7 +60,7 @@ module _ (g : Graph) (id : List ℕ) (test : Test) (before now : StoreSeen) (is 
         of_graph = of_graph;
         numbered = own_table.of_shapes.numbered;
         servable = servable_ready (maps_of g) id (service_data made) ready of_graph own_table.of_shapes.shaped;
-        http_servable = ?;
+        http_servable = http_servable (maps_of g) id (service_data made) ready of_graph own_table.of_shapes.shaped;
         built = own_table.of_shapes.built;
         no_default = own_table.of_shapes.no_default;
         added = own_table.of_shapes.added;
