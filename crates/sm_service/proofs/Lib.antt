@@ -11,21 +11,11 @@ mod ServiceReached
 mod BindingsRead
 mod TablesOfService
 mod HttpRead
-mod HttpReady
 mod KeptErrors
 mod ShownMembers
 mod FilledServices
 mod ServedRoots
 mod ReferencesRead
-mod OnceNamed
-mod OperationsNamed
-mod AgainPlaces
-mod OnceNumbers
-mod OperationsTold
-mod FilledNames
-mod OperationBodies
-mod ErrorStatuses
-mod OperationsReady
 mod ErrorsNamed
 mod OnceJoined
 mod ServableIds
@@ -44,4 +34,3 @@ mod HttpServes
 mod HttpWays
 mod HttpTargets
 mod HttpBound
-mod CompiledServices

@@ -5,7 +5,6 @@
 mod bound_members;
 mod bound_table;
 mod closure;
-mod compiling;
 mod error;
 mod error_order;
 mod error_rows;
@@ -13,9 +12,6 @@ mod errors;
 mod http_rule;
 pub mod laws;
 mod operation;
-mod operation_errors;
-mod operation_numbers;
-mod operations;
 mod references;
 mod refusal;
 mod served;
@@ -24,7 +20,6 @@ mod serving;
 mod table;
 mod value_shapes;
 
-pub use compiling::compile;
 pub use error::ErrorShape;
 pub use errors::Errors;
 pub use operation::{HttpRule, Operation};
