@@ -1,0 +1,11 @@
+use Rattle.std.proofs.Common.{map, take}
+use Rattle.sm_model.specs.GraphView.{maps_of}
+use Rattle.sm_model.specs.Reaching.{id_of_number}
+use Rattle.sm_shapes.specs.BindingPuts.{bindings_view}
+use Rattle.sm_compile.specs.Compiled.{EachSays}
+use Rattle.sm_service.specs.steps.BindingsTold.{TellsBinding}
+use Rattle.sm_service.proofs.bound_members.bindings_of_members.Given as goal
+
+abbrev pub invariant-loop-member : goal.invariant-loop-member
+invariant-loop-member l =
+    EachSays (TellsBinding (maps_of l.graph)) (map (id_of_number l.graph) (take l.member-index l.members)) (bindings_view l.bindings.items)

@@ -1,0 +1,16 @@
+pub mod ServiceData
+pub mod ErrorsView
+pub mod ErrorOrder
+pub mod PathView
+pub mod ServiceView
+pub mod References
+pub mod ServedOperation
+pub mod Bound
+pub mod Compiled
+pub mod Filled
+pub mod Servable
+pub mod WireMembers
+pub mod HttpServable
+pub mod Answers
+pub mod Laws
+pub mod steps

@@ -1,0 +1,52 @@
+// Whether an operation is served. Operations that share a shape may share the way from it to one that isn't.
+ghost use Rattle.std.specs.Prelude.{◌≡◌, IfOk};
+ghost use Rattle.sm_service.specs.PathView.{member_path_text};
+
+use sm_tree::{NoMemory, Text};
+use std::alloc::Global;
+use std::marker::Model;
+use std::rc::Rc;
+
+/// A member path that begins at the input, the output or an error of an operation: `input/a/b`, `output/a`, `error/NAME/a`. Contracts see
+/// its text.
+#[derive(Debug, Drop)]
+pub struct MemberPath {
+    // Where it begins, `input`, `output` or `error/NAME`, with the steps before those that are shared.
+    start: Text,
+    // The names of the members from there on, joined by `/`: nothing, or an empty text, where it ends there.
+    way: Option<Rc<Text>>,
+}
+
+impl Model for MemberPath {
+    ghost use Rattle.std.specs.Prelude.{List, ℕ};
+    ghost use Rattle.sm_shapes.specs.SharedView.{shared_list};
+    ghost use Rattle.sm_service.specs.PathView.{member_path_text};
+
+    ghost Value = { List ℕ };
+
+    ghost view = { λ a. member_path_text a.start (shared_list a.way) };
+}
+
+impl MemberPath {
+    /// The path of a start, and of the way from there.
+    pub(crate) fn new(alloc: Global, start: Text, way: Text) -> Result<Self, NoMemory>
+        ensures { IfOk result (λ path. path ≡ member_path_text start way) }
+    {
+        match Rc::new(alloc, way) {
+            Ok(way) => Ok(MemberPath {
+                start,
+                way: Some(way),
+            }),
+            Err(_) => Err(NoMemory),
+        }
+    }
+}
+
+/// Whether values of an operation's input, output and errors can be carried.
+#[derive(Debug, Drop)]
+pub enum OperationServed {
+    /// They can.
+    Yes,
+    /// The first member path that leads to a shape whose values can't: by the input, then the output, then the errors in order.
+    Unserved(MemberPath),
+}
