@@ -20,7 +20,7 @@ pub struct GivenBody<'b> {
     /// The convention by which it is read.
     pub near: BodyWay,
     /// What is shown of it.
-    pub far: Far,
+    pub far: Far<'b>,
     /// Its text or its item.
     pub bytes: &'b [u8],
 }

@@ -8,6 +8,7 @@ ghost use Rattle.sm_shapes.specs.TableData.{shape_count};
 ghost use Rattle.sm_shapes.specs.TableView.{table_data};
 ghost use Rattle.sm_shapes.specs.ValueView.{val_of};
 
+use crate::parts::{show_field, show_object};
 use crate::row::Far;
 use crate::shown::show_value;
 use codec_bodies::BodyWay;
@@ -18,8 +19,8 @@ use sm_shapes::values::Value;
 use sm_tree::{NoMemory, Path};
 use std::alloc::Global;
 
-// Appends the way to a leaf that isn't carried, as a JSON Pointer (RFC 6901).
-fn show_path(alloc: Global, path: &Path, out: &mut String) -> Result<(), NoMemory> {
+/// Appends the way to a leaf that isn't carried, as a JSON Pointer (RFC 6901).
+pub fn show_path(alloc: Global, path: &Path, out: &mut String) -> Result<(), NoMemory> {
     let pointer = path.print(alloc)?;
     Ok(write!(out, "Fault {pointer} NotCarried")?)
 }
@@ -91,7 +92,7 @@ pub fn show_far(
     alloc: Global,
     table: &Table,
     shape: u32,
-    far: Far,
+    far: Far<'_>,
     value: &Value,
     out: &mut String,
 ) -> Result<(), NoMemory>
@@ -103,5 +104,7 @@ pub fn show_far(
         Far::Value => show_value(table, value, out),
         Far::Body(way) => show_body(alloc, table, shape, value, way, out),
         Far::Order => show_entries(value, out),
+        Far::Object(asked) => show_object(alloc, table, shape, asked, value, out),
+        Far::Field(way) => show_field(alloc, table, shape, way, value, out),
     }
 }

@@ -4,7 +4,9 @@
 
 mod answer;
 mod defaults;
+mod event_words;
 mod far;
+mod parts;
 mod play;
 mod row;
 mod shown;

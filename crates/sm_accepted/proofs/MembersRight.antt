@@ -121,8 +121,8 @@ module _ (g : GraphMaps) (f : IsFormedGraph g) (In : IdSet) (none : NoneFailsIn 
       }) refl))
 
   module _ (id : List ℕ) (among : Contains s.members id) (m : MemberEntry) (there : HasEntry g id (member_entry m)) where
-    inside : In id
-    inside = members_in id among
+    member_in : In id
+    member_in = members_in id among
 
     own : is_prelude_id id ≡ false
     own = member_own g f id m there
@@ -135,12 +135,12 @@ module _ (g : GraphMaps) (f : IsFormedGraph g) (In : IdSet) (none : NoneFailsIn 
 
     -- its target is there, and may be
     target_there : (o : Option Entry) → fin.get g.shapes m.target ≡ o → (t : ShapeEntry) × HasEntry g m.target (shape_entry t)
-    target_there None is = absurd (none.missing id m.target inside (record {
+    target_there None is = absurd (none.missing id m.target member_in (record {
       refers = record { e = member_entry m; own = (there, own); relation = Target; other = λ e. cc; says = (refl, refl) };
       nothing = λ found. none-some found.0 (sym is ∙ found.1);
     }))
     target_there (Some (shape_entry t)) is = (t, is)
-    target_there (Some (member_entry n)) is = absurd (none.kinds id m.target inside (by_member (record {
+    target_there (Some (member_entry n)) is = absurd (none.kinds id m.target member_in (by_member (record {
       shape = shape;
       s = s;
       m = m;
@@ -155,7 +155,7 @@ module _ (g : GraphMaps) (f : IsFormedGraph g) (In : IdSet) (none : NoneFailsIn 
         → may_be_target s.kind (is_key shape id) (bytes_eq m.target unit_id) t.kind ≡ true
     may_be t is =
         must (may_be_target s.kind (is_key shape id) (bytes_eq m.target unit_id) t.kind)
-        (λ wrong. none.kinds id m.target inside (by_member (record {
+        (λ wrong. none.kinds id m.target member_in (by_member (record {
           shape = shape;
           s = s;
           m = m;
@@ -169,7 +169,7 @@ module _ (g : GraphMaps) (f : IsFormedGraph g) (In : IdSet) (none : NoneFailsIn 
     any_value : (n : Node) → trait_of g id enum_value_id ≡ Some n → (is_text n || is_number n) ≡ true
     any_value n is =
         sym (or_false (is_text n || is_number n))
-        ∙ by_row g In none id inside own (at_member s.kind (fin.get g.shapes m.target)) stands enum_value_id n refl is
+        ∙ by_row g In none id member_in own (at_member s.kind (fin.get g.shapes m.target)) stands enum_value_id n refl is
 
     sound_at : (t : ShapeEntry) → HasEntry g m.target (shape_entry t) → IsSoundMember g s.kind id
     sound_at t is = record {
@@ -179,7 +179,7 @@ module _ (g : GraphMaps) (f : IsFormedGraph g) (In : IdSet) (none : NoneFailsIn 
       found = is;
       may_target = may_from s.kind (is_key shape id) (bytes_eq m.target unit_id) t.kind (may_be t is) (no_unit m.target t is);
       traits = formed_along t.kind (trait_of g id) (own_traits m.traits) (λ name. ap (trait_in name) there)
-          (formed_traits g In none id inside own (at_member s.kind (fin.get g.shapes m.target)) stands t.kind
+          (formed_traits g In none id member_in own (at_member s.kind (fin.get g.shapes m.target)) stands t.kind
           (λ kinds. ap (λ (o : Option Entry). list_any (takes_in (at_member s.kind o)) (with_members kinds)) is
           ∙ seen_at_target kinds s.kind t.kind t refl));
       value = subst (λ (o : Option Node). where_there (is_enum_value s.kind) o ≡ true) (ap (trait_in enum_value_id) there)

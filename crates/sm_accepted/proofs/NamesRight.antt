@@ -78,8 +78,8 @@ module _ (g : GraphMaps) (f : IsFormedGraph g) (In : IdSet) (none : NoneFailsIn 
   there_is : (name : List ℕ) → Contains names name → IsThere g (member_id shape name)
   there_is name among = is_there g s.members (member_id shape name) there (listed name among)
 
-  inside : (name : List ℕ) → Contains names name → In (member_id shape name)
-  inside name among = members_in (member_id shape name) (listed name among)
+  name_in : (name : List ℕ) → Contains names name → In (member_id shape name)
+  name_in name among = members_in (member_id shape name) (listed name among)
 
   -- what is said is a text, and stands at members of structures and of unions alone
   json_text : (name : List ℕ) → Contains names name → (n : Node) → trait_of g (member_id shape name) json_name_id ≡ Some n
@@ -88,7 +88,7 @@ module _ (g : GraphMaps) (f : IsFormedGraph g) (In : IdSet) (none : NoneFailsIn 
       let m = there_is name among in
       let id = member_id shape name in
       sym (or_false (is_text n))
-      ∙ by_row g In none id (inside name among) (member_own g f id m.0 m.1) (at_member s.kind (fin.get g.shapes m.0.target))
+      ∙ by_row g In none id (name_in name among) (member_own g f id m.0 m.1) (at_member s.kind (fin.get g.shapes m.0.target))
       (stands g f In none shape s home members_in id (listed name among) m.0 m.1) json_name_id n refl is
 
   none_said : is_among (model.Structure ∷ model.Union ∷ []) s.kind ≡ false → (name : List ℕ) → Contains names name
@@ -97,7 +97,7 @@ module _ (g : GraphMaps) (f : IsFormedGraph g) (In : IdSet) (none : NoneFailsIn 
   none_said other name among (Some n) is =
       let m = there_is name among in
       let id = member_id shape name in
-      let may = placed g In none id (inside name among) (member_own g f id m.0 m.1) (at_member s.kind (fin.get g.shapes m.0.target))
+      let may = placed g In none id (name_in name among) (member_own g f id m.0 m.1) (at_member s.kind (fin.get g.shapes m.0.target))
       (stands g f In none shape s home members_in id (listed name among) m.0 m.1) json_name_id n refl is in
       let not_here : ((is_among (model.Structure ∷ model.Union ∷ []) s.kind || false) || false) ≡ false =
       ap (λ b. (b || false) || false) other in
@@ -120,7 +120,7 @@ module _ (g : GraphMaps) (f : IsFormedGraph g) (In : IdSet) (none : NoneFailsIn 
           let x_in : Contains names x = subst (λ ns. Contains ns x) (sym is) (stands_at before x later) in
           let y_in : Contains names y = subst (λ ns. Contains ns y) (sym is) (Contains-append_left before (x ∷ later) y among) in
           let name = json_name_of g shape x in
-          none.wire_names (member_id shape x) name (inside x x_in) (json_again shape s kind (record {
+          none.wire_names (member_id shape x) name (name_in x x_in) (json_again shape s kind (record {
             before = map (member_id shape) before;
             behind = record {
               home = home;
