@@ -1,26 +1,20 @@
 -- A service stays servable with its defaults: they change no kind, no name, no target and no binding.
-use Rattle.std.proofs.Common.{◌≡◌, ◌⊎◌, inl, inr, ℕ, zero, suc, Bool, List, [], ◌∷◌, Option, Some, None, map, refl, sym, ap, ◌∙◌, subst}
+use Rattle.std.proofs.Common.{◌≡◌, inl, inr, ℕ, zero, suc, Bool, List, [], ◌∷◌, Option, Some, map, refl, sym, ap, ◌∙◌, subst}
 use Rattle.std.specs.Prelude.{IsTrue, slice_get}
-use Rattle.std.specs.List.{Contains}
 use Rattle.httparse.specs.Grammar.{is_token}
 use Rattle.sm_model.specs.Reaching.{LeadsOn}
 use Rattle.sm_shapes.specs.Fitting.{Test}
-use Rattle.sm_shapes.specs.InOrder.{Shaped}
 use Rattle.sm_shapes.specs.TableData.{BindingData, MemberData, TableData, binding_at, binding_in, header, json_name_at, json_name_in, kind_at}
-use Rattle.sm_shapes.specs.TableData.{members_at, name_at, name_in, required_at, required_in, shape_count, sparse_at, target_at, target_in}
+use Rattle.sm_shapes.specs.TableData.{members_at, name_at, name_in, required_at, required_in, sparse_at, target_at, target_in}
 use Rattle.sm_shapes.specs.declared.kinds.ShapeKind.{ShapeKind}
-use Rattle.sm_shapes.specs.declared.kinds.ShapeKind.TheVariants.{LeftOut, Structure, Union}
 use Rattle.sm_codec.specs.Codec.{Codec}
 use Rattle.sm_codec.specs.Defaults.{filled, filled_members, node_codec}
-use Rattle.sm_compile.specs.Served.{type_name}
-use Rattle.sm_service.specs.Filled.{over_table}
 use Rattle.sm_rules.specs.Bindings.{an_error, an_input, an_output}
-use Rattle.sm_service.specs.HttpServable.{AreLabelled, HaveOwnParts, HaveOwnQueries, HaveTargets, HttpServable, IsHttpServable, IsSuccessCode}
+use Rattle.sm_service.specs.HttpServable.{AreLabelled, HaveOwnParts, HaveOwnQueries, HaveTargets, IsHttpServable, IsSuccessCode}
 use Rattle.sm_service.specs.Laws.{StaysServable}
-use Rattle.sm_service.specs.Servable.{HasNoTypeMember, IsCarriedIn, IsReachedIn, IsServableOperation, LeadsIn, Servable}
-use Rattle.sm_service.specs.ServiceData.{HttpData, OperationData, ServiceData}
+use Rattle.sm_service.specs.Servable.{IsCarriedIn, IsServableOperation, LeadsIn}
+use Rattle.sm_service.specs.ServiceData.{HttpData, OperationData}
 use Rattle.sm_service.specs.WireMembers.{InnerSeen, TargetSeen, WireMember, inner_at, target_seen_at, wire_member_at, wire_members}
-use Rattle.sm_service.specs.declared.error.ErrorShape.{ErrorShape}
 
 -- what doesn't look at the default
 module _ {Y : Type 0} (look : Option MemberData → Y)

@@ -6,8 +6,7 @@ use Rattle.std.proofs.lemmas.Option.{none-some}
 use Rattle.sm_tree.specs.Node.{Node}
 use Rattle.sm_model.specs.Graphs.{GraphMaps}
 use Rattle.sm_compile.specs.TraitNodes.{number_of, text_of}
-use Rattle.sm_uri.specs.UriPattern.{UriSaid}
-use Rattle.sm_rules.specs.Http.{HasUri, method_of, success_code_of}
+use Rattle.sm_rules.specs.Http.{success_code_of}
 use Rattle.sm_rules.specs.Words.{IsOperation, field_in}
 use Rattle.sm_http_traits.specs.Http.{code_seen, method_seen}
 use Rattle.sm_http_traits.proofs.HttpSaid.{said_seen, seen_said}

@@ -3,8 +3,6 @@ use Rattle.std.proofs.Common.{◌≡◌, ℕ, List, Option, sym, ap, ◌∙◌}
 use Rattle.std.specs.Option.{option_and_then, unwrap_or}
 use Rattle.sm_tree.specs.Node.{Node, no_nodes}
 use Rattle.sm_tree.specs.Parts.{entries_in}
-use Rattle.sm_tree.specs.View.{node_of}
-use Rattle.sm_tree.specs.declared.Tree.{Tree}
 use Rattle.sm_model.specs.Graphs.{ShapeEntry, shape_entry}
 use Rattle.sm_model.specs.GraphView.{At, HasBodyNode, maps_of}
 use Rattle.sm_model.specs.Reaching.{id_of_number}

@@ -1,10 +1,10 @@
 -- Whether shapes are served, one after the other, and the paths of ways from where an operation's walk begins.
-use Rattle.std.proofs.Common.{◌≡◌, ◌⊎◌, inl, inr, ℕ, zero, suc, ◌+◌, ◌<◌, ◌≤◌, List, [], ◌∷◌, ◌++◌, map, length, drop, get_or, refl, sym, ap, ◌∙◌, subst}
+use Rattle.std.proofs.Common.{◌≡◌, inl, inr, ℕ, zero, suc, ◌+◌, ◌<◌, ◌≤◌, List, [], ◌∷◌, ◌++◌, length, drop, get_or, refl, sym, ap, ◌∙◌, subst}
 use Rattle.std.proofs.Common.{arith}
 use Rattle.std.proofs.Math.Seq.{drop-nil}
 use Rattle.std.proofs.lemmas.List.{drop_more}
 use Rattle.std.specs.Prelude.{IfOk, Result, Ok, Err}
-use Rattle.std.specs.List.{Contains, join_with_byte}
+use Rattle.std.specs.List.{join_with_byte}
 use Rattle.sm_bytes.specs.Ascii.{slash}
 use Rattle.sm_model.specs.Graphs.{GraphMaps, member_entry, member_id}
 use Rattle.sm_model.specs.GraphView.{maps_of}

@@ -1,6 +1,5 @@
 -- That `http` of an operation reads: what is known of each operation of a service that is ready.
 use Rattle.std.specs.Prelude.{◌≡◌, ◌<◌, ◌^◌, ℕ, ℤ, pos, List, Some}
-use Rattle.std.specs.Option.{unwrap_or}
 use Rattle.sm_tree.specs.Node.{Node}
 use Rattle.sm_model.specs.Graphs.{GraphMaps}
 use Rattle.sm_compile.specs.Sound.{trait_of}

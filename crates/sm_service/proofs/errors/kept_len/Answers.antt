@@ -1,4 +1,4 @@
-use Rattle.std.proofs.Common.{◌≡◌, arith}
+use Rattle.std.proofs.Common.{arith}
 use Rattle.sm_service.proofs.KeptErrors.{kept_whole}
 use Rattle.sm_service.proofs.errors.kept_len.Goals as goal
 

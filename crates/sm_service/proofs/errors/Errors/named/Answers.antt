@@ -3,7 +3,6 @@ use Rattle.std.specs.Prelude.{MatchOption, slice_get}
 use Rattle.std.specs.List.{Contains}
 use Rattle.std.specs.Option.{option_map}
 use Rattle.sm_shapes.specs.SharedView.{shared_list}
-use Rattle.sm_service.specs.ErrorOrder.{place_named}
 use Rattle.sm_service.specs.ErrorsView.{but_at}
 use Rattle.sm_service.specs.ServiceData.{name_of_error}
 use Rattle.sm_service.proofs.ErrorsNamed.{behind_few, named_behind, named_own, none_named}
