@@ -44,48 +44,37 @@ module _ (g : GraphMaps) (ps : PatternRows) (n : Numbering) where
     pub says : SaysShape g ps n id d
     pub binds : BindsShape g id d
 
+  -- what a row says besides stands whatever its binding and its media type are
+  put_beside : (id : List ℕ) (d : MemberData) (b : Option BindingData) (t : Option (List ℕ)) → SaysMember g ps n id d
+      → SaysMember g ps n id (record d { binding = b; media_type = t })
+  put_beside id d b t h = record {
+    m = h.m;
+    there = h.there;
+    home = h.home;
+    home_there = h.home_there;
+    target = h.target;
+    target_there = h.target_there;
+    shape_number = h.shape_number;
+    name = h.name;
+    target_number = h.target_number;
+    json_name = h.json_name;
+    required = h.required;
+    constraints = h.constraints;
+    format = h.format;
+    default_node = h.default_node;
+    no_default = h.no_default;
+  }
+
   row_bound : (id : List ℕ) (d : MemberData) (b : Option BindingData) → AreBindingTexts (trait_of g id) → SaysMember g ps n id d
       → TellsBinding g id b → SaysBound id (with_binding d b)
   row_bound id d b texts h tells = record {
-    says = record {
-      m = h.m;
-      there = h.there;
-      home = h.home;
-      home_there = h.home_there;
-      target = h.target;
-      target_there = h.target_there;
-      shape_number = h.shape_number;
-      name = h.name;
-      target_number = h.target_number;
-      json_name = h.json_name;
-      required = h.required;
-      constraints = h.constraints;
-      format = h.format;
-      default_node = h.default_node;
-      no_default = h.no_default;
-    };
+    says = put_beside id d b d.media_type h;
     binding = λ m there. binding_said g id m there b (tells texts);
   }
 
   row_whole : (id : List ℕ) (d : MemberData) (t : Option (List ℕ)) → SaysBound id d → TellsMedia g id t → SaysWhole id (with_media d t)
   row_whole id d t bound tells = let h = bound.says in record {
-    says = record {
-      m = h.m;
-      there = h.there;
-      home = h.home;
-      home_there = h.home_there;
-      target = h.target;
-      target_there = h.target_there;
-      shape_number = h.shape_number;
-      name = h.name;
-      target_number = h.target_number;
-      json_name = h.json_name;
-      required = h.required;
-      constraints = h.constraints;
-      format = h.format;
-      default_node = h.default_node;
-      no_default = h.no_default;
-    };
+    says = put_beside id d d.binding t h;
     binds = record {
       m = h.m;
       there = h.there;
