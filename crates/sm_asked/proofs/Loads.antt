@@ -22,21 +22,10 @@ use Rattle.sm_asked.specs.Loading.LoadAnswers.{many_files, long_files, not_loade
 use Rattle.sm_asked.specs.ModelFiles.{AreRead, PassesOne}
 use Rattle.sm_asked.specs.Comes.{StepStops, EndsWithLine, EndsWithLimit}
 use Rattle.sm_asked.specs.steps.FileSteps.{PassesLimit, OpensFile}
-use Rattle.sm_asked.specs.steps.LoadSteps.{LoadsModel, ReadsModels, StopsLoad, TextsAnswer}
+use Rattle.sm_asked.specs.steps.LoadSteps.{LoadsModel, StopsLoad, TextsAnswer}
 use Rattle.sm_asked.specs.declared.lines.Shown.{Shown}
 use Rattle.sm_asked.specs.declared.stop.CommandStop.{CommandStop}
 use Rattle.sm_asked.proofs.Stops.{limit_stops, line_stops, stops_map}
-
--- the files: one is too long, all are too long together, one more is read
-pub file_long : (held : Option Folder) (total : ℕ) (names rest : List (List ℕ)) (name : List ℕ) (files files1 : FilesSeen) (Failed : Type 0)
-    (stop : CommandStop)
-    → ((a : Answer) → PassesOne held total (name ∷ rest) a → PassesOne held 0 names a) → files.held ≡ held
-    → (Rose files.read_faults files1.read_faults → Failed) → OpensFile files files1 name (Err stop)
-    → StepStops (PassesOne held 0 names) Failed (Unit {0}) stop
-file_long held total names rest name files files1 Failed stop passes same rose h =
-    stops_map (PassesLimit files.held name) (PassesOne held 0 names) (Rose files.read_faults files1.read_faults) Failed
-    (Unit {0}) (Unit {0}) stop
-    (λ a says. passes a (inl (subst (λ x. PassesLimit x name a) same says))) rose (λ short. short) h
 
 pub all_long : (held : Option Folder) (total : ℕ) (names rest : List (List ℕ)) (name file : List ℕ) (Failed : Type 0) (stop : CommandStop)
     → ((a : Answer) → PassesOne held total (name ∷ rest) a → PassesOne held 0 names a) → Holds held name (Some file)
@@ -101,13 +90,6 @@ pub files_many : (shown : Shown) (files files1 : FilesSeen) (names : List (List 
 files_many shown files files1 names stop many ends =
     limit_stops (LoadAnswers shown files.held names) (Rose files.read_faults files1.read_faults) (Unit {0}) files_limit_line stop
     (many_files many refl) tt ends
-
-pub reading_stops : (shown : Shown) (files files1 : FilesSeen) (names : List (List ℕ)) (stop : CommandStop) → length names ≤ files_limit
-    → ReadsModels files files1 names (Err stop) → Loads shown files files1 names (Err stop)
-reading_stops shown files files1 names stop few h =
-    stops_map (PassesOne files.held 0 names) (LoadAnswers shown files.held names) (Rose files.read_faults files1.read_faults)
-    (Rose files.read_faults files1.read_faults)
-    (Unit {0}) (Unit {0}) stop (λ a says. long_files few says) (λ rose. rose) (λ short. short) h
 
 pub model_loads : (shown : Shown) (files files1 : FilesSeen) (names : List (List ℕ)) (read : List FileGiven) (result : Result Model CommandStop)
     → length names ≤ files_limit → AreRead files.held 0 names read → LoadsModel shown read result → Loads shown files files1 names result

@@ -1,5 +1,5 @@
 -- Words over model files: one reading of them, and words that aren't.
-use Rattle.std.proofs.Common.{◌≡◌, ◌<◌, ℕ, List, [], ◌∷◌, ◌++◌, length, sym, ap, ◌∙◌, refl, arith}
+use Rattle.std.proofs.Common.{◌≡◌, ◌<◌, ℕ, List, [], ◌∷◌, ◌++◌, length, sym, ap, ◌∙◌, refl}
 use Rattle.sm_asked.specs.Words.{AreModelsAlone, AreOverModels}
 
 -- what stands before a last word, and that word
@@ -24,48 +24,9 @@ pub alone_same : (words : List (List ℕ)) (name : List ℕ) (models models1 : L
     → AreModelsAlone words name models1 → models ≡ models1
 alone_same words name models models1 h i = let e = sym h.are ∙ i.are in cc
 
--- words that aren't over model files: no words, another name, no last word, no model
-pub no_words : (words : List (List ℕ)) (name : List ℕ) (models : List (List ℕ)) (last : List ℕ) → words ≡ []
-    → AreOverModels words name models last → ⊥
-no_words words name models last none h = let e = sym none ∙ h.are in cc
-
 pub other_name : (words rest : List (List ℕ)) (command name : List ℕ) (models : List (List ℕ)) (last : List ℕ) → words ≡ command ∷ rest
     → (command ≡ name → ⊥) → AreOverModels words name models last → ⊥
 other_name words rest command name models last is other h = let e = sym is ∙ h.are in other (cc)
-
-pub no_last : (words rest : List (List ℕ)) (command name : List ℕ) (models : List (List ℕ)) (last : List ℕ) → words ≡ command ∷ rest
-    → rest ≡ [] → AreOverModels words name models last → ⊥
-no_last words rest command name models last is none h =
-    let e = sym is ∙ h.are in
-    let behind : models ++ last ∷ [] ≡ [] = cc in none_is_last models last behind
-
-pub no_model : (words rest before : List (List ℕ)) (command form name : List ℕ) (models : List (List ℕ)) (last : List ℕ)
-    → words ≡ command ∷ rest → rest ≡ before ++ form ∷ [] → before ≡ [] → AreOverModels words name models last → ⊥
-no_model words rest before command form name models last is ends none h =
-    let e = sym is ∙ h.are in
-    let behind : before ++ form ∷ [] ≡ models ++ last ∷ [] = cc in
-    let same : before ≡ models = (last_same before models form last behind).0 in
-    let empty : length models ≡ 0 = ap length (sym same ∙ none) in omega (arith, empty, h.some)
-
-pub some_model : (words rest before : List (List ℕ)) (command form name : List ℕ) → words ≡ command ∷ rest → rest ≡ before ++ form ∷ []
-    → command ≡ name → 0 < length before → AreOverModels words name before form
-some_model words rest before command form name is ends named some =
-    record { some = some; are = is ∙ ap (λ ws. command ∷ ws) ends ∙ ap (λ c. c ∷ (before ++ form ∷ [])) named }
-
--- words that aren't model files alone behind a name: no words, another name, no model file; and those that are
-pub no_words_alone : (words : List (List ℕ)) (name : List ℕ) (models : List (List ℕ)) → words ≡ [] → AreModelsAlone words name models → ⊥
-no_words_alone words name models none h = let e = sym none ∙ h.are in cc
-
-pub other_name_alone : (words rest : List (List ℕ)) (command name : List ℕ) (models : List (List ℕ)) → words ≡ command ∷ rest
-    → (command ≡ name → ⊥) → AreModelsAlone words name models → ⊥
-other_name_alone words rest command name models is other h = let e = sym is ∙ h.are in other (cc)
-
-pub no_model_alone : (words rest : List (List ℕ)) (command name : List ℕ) (models : List (List ℕ)) → words ≡ command ∷ rest → rest ≡ []
-    → AreModelsAlone words name models → ⊥
-no_model_alone words rest command name models is none h =
-    let e = sym is ∙ h.are in
-    let same : rest ≡ models = cc in
-    let empty : length models ≡ 0 = ap length (sym same ∙ none) in omega (arith, empty, h.some)
 
 pub models_alone : (words rest : List (List ℕ)) (command name : List ℕ) → words ≡ command ∷ rest → command ≡ name → 0 < length rest
     → AreModelsAlone words name rest

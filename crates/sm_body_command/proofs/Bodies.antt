@@ -17,10 +17,8 @@ use Rattle.sm_codec.specs.Defaults.{filled}
 use Rattle.sm_bodies.specs.TextAnswers.{TextAnswer, TextAnswers}
 use Rattle.sm_bodies.specs.declared.form.BodyForm.{BodyForm}
 use Rattle.sm_compile.specs.Answers.{StoreSeen, CompilesShape, IsPatternRefused, IsShapeCompiled, seen_table}
-use Rattle.sm_compile.specs.Compiled.{texts_of}
 use Rattle.sm_compile.specs.Sound.{IsValueShape}
-use Rattle.sm_compile.specs.declared.compiled.CompileRefusal.{CompileRefusal}
-use Rattle.sm_compile.specs.declared.compiled.CompileRefusal.TheVariants.{NoShape, Pattern as is_pattern, NoMemory as no_room}
+use Rattle.sm_compile.specs.declared.compiled.CompileRefusal.TheVariants.{NoShape, Pattern as is_pattern}
 use Rattle.sm_compile.specs.declared.compiled.OneShape.{OneShape}
 use Rattle.sm_compile.specs.declared.compiled.Served.{Served}
 use Rattle.sm_compile.specs.declared.compiled.Served.TheVariants.{Yes, Unserved}
@@ -34,7 +32,7 @@ use Rattle.sm_asked.specs.Lines.{no_shape_line, pattern_line, body_limit_line}
 use Rattle.sm_lines.specs.Lines.{unserved_line}
 use Rattle.sm_asked.specs.Loading.{Loaded, LoadAnswers, Loads}
 use Rattle.sm_asked.specs.Outside.{InputsSeen, inputs_seen}
-use Rattle.sm_asked.specs.CommandAsked.{CommandAsked, Answers, OnlyAdds, ReadFails, StopsShort, told_by}
+use Rattle.sm_asked.specs.CommandAsked.{CommandAsked, Answers, ReadFails, StopsShort, told_by}
 use Rattle.sm_asked.specs.Stages.{Told}
 use Rattle.sm_body_command.specs.steps.BodySteps.{ShapeSays, HasTableOf, MakesTable, IsReady, PrintsText, InputSays}
 use Rattle.sm_body_command.specs.steps.BodySteps.{InputComesTo, TableSays, TableComesTo}
@@ -240,14 +238,6 @@ module _ (files files1 : FilesSeen) (test : Test) (store store1 : StoreSeen) (na
         | inr served ↦ inr (None, count, record { table = made; served = served })
       ])
       comes
-
--- compiling only adds texts to a store
-pub compiling_adds : (g : GraphMaps) (shape : List ℕ) (test : Test) (before now : StoreSeen) (result : Result OneShape CompileRefusal)
-    → CompilesShape g shape test before now result → OnlyAdds before.added now.added
-compiling_adds g shape test before now (Ok one) h = (texts_of (table_data one.table).patterns, h.1.added)
-compiling_adds g shape test before now (Err NoShape) h = ([], ap (λ (x : StoreSeen). x.added) h.1 ∙ sym (append-nil before.added))
-compiling_adds g shape test before now (Err (is_pattern id)) h = (h.1.earlier, h.1.added)
-compiling_adds g shape test before now (Err no_room) h = (h.more, h.added)
 
 -- a shape that isn't served
 pub unserved_stops : (near far : BodyForm) (one : OneShape) (test : Test) (input : Stream) (path : List ℕ) (stop : CommandStop)

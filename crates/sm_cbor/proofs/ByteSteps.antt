@@ -29,7 +29,7 @@ use Rattle.sm_cbor.proofs.ArgumentSteps.{argument_byte, simple_stops, argument_n
 use Rattle.sm_cbor.proofs.Readings.{goes_by}
 use Rattle.sm_cbor.proofs.EndSteps.{kind_append}
 use Rattle.sm_cbor.proofs.Settling.{behind_level, can_after, from_levels}
-use Rattle.sm_cbor.proofs.InitialSteps.{start_bound, byte_bound, bound_word}
+use Rattle.sm_cbor.proofs.InitialSteps.{byte_bound, bound_word}
 
 -- bytes of an argument
 lives_on : (j : Subject) (k v c : ℕ) → 0 < k → (j ≡ Opaque 0xF8 → 32 ≤ c) → ArgumentLives j k v → ArgumentLives j (k - 1) (v * 256 + c)
@@ -103,10 +103,6 @@ pub break_reached : (S : StandsFor) (r : Reader) (kind : StringKind) (c : ℕ) �
 break_reached S r kind c is reached =
     reached_by S (cbor_state_at r (Chunks kind)) (cbor_state_at r (String kind Whole 0 Between)) (c ∷ []) reached
     (break_leads plain most_levels c kind r.held.items (levels_of r) is)
-
-pub chunk_there : (r : Reader) (kind : StringKind) (c k v : ℕ) → IsAt r (Chunks kind) → StartsNumber (c % 32) k v
-    → IsAt r (InArgument (StringHead kind Chunk) k v)
-chunk_there r kind c k v there starts = record { room = there.room; keeps = (tt, start_bound (c % 32) k v starts, there.keeps) }
 
 pub chunk_begins : (S T : StandsFor) (r q : Reader) (kind : StringKind) (c k v : ℕ) → c / 32 ≡ major_of kind → StartsNumber (c % 32) k v
     → CborGoes S r [] (InArgument (StringHead kind Chunk) k v) [] T q → CborGoes S r [] (Chunks kind) (c ∷ []) T q

@@ -25,7 +25,6 @@ use Rattle.sm_cbor.specs.declared.place.Subject.TheVariants.{Unsigned, Negative,
 use Rattle.sm_cbor.specs.declared.place.Subject.TheVariants.{Tag as TagHead, Opaque}
 use Rattle.sm_cbor.specs.declared.place.Level.{Level}
 use Rattle.sm_cbor.specs.declared.place.Level.TheVariants.{Tag, List as AList, Map as AMap}
-use Rattle.sm_cbor.specs.declared.place.CborPlace.{CborPlace}
 use Rattle.sm_cbor.specs.declared.place.CborPlace.TheVariants.{Item, After, Argument as InArgument, String, Chunks}
 use Rattle.sm_cbor.specs.declared.read.Reader.{Reader}
 use Rattle.sm_cbor.proofs.Items.{at}
@@ -34,10 +33,6 @@ use Rattle.sm_cbor.proofs.ArgumentSteps.{unsigned_ends, negative_ends, string_be
 use Rattle.sm_cbor.proofs.Readings.{leads_none, goes_by, goes_with, goes_to}
 use Rattle.sm_cbor.proofs.Reaching.{may_take, reached_by, owed_by, owed_may, owed_taken}
 use Rattle.sm_cbor.proofs.Settling.{can_after}
-
--- behind an item, whatever it was
-pub item_after : (r : Reader) (p : CborPlace) → IsAt r p → IsAt r After
-item_after r p there = record { room = let room = there.room in omega arith; keeps = tt }
 
 -- its event was taken, and what ends with it has ended
 pub leaf_goes : (S M T : StandsFor) (before behind : Reader) (e : NodeEvent) → CborGoes M before [] After [] T behind → TakesOn S e M
@@ -246,10 +241,6 @@ opaque_owed S r b n there reached =
     owed_by S (cbor_state_at r (InArgument (Opaque b) 0 n)) (cbor_state_at r After) [] (opaque_event b) reached
     (opaque_ends plain most_levels b n r.held.items r.held.items (levels_of r) (is_opaque b n there.keeps.0))
 
--- or a level opens
-pub list_room : (r : Reader) (n : ℕ) → IsAt r (InArgument ListHead 0 n) → length (levels_of r) < most_levels
-list_room r n there = let room = there.room in omega arith
-
 pub list_owed : (S : StandsFor) (r : Reader) (n : ℕ) → Reached S (cbor_state_at r (InArgument ListHead 0 n))
     → Owed S (start_list (Some n)) (opened r (AList n))
 list_owed S r n reached =
@@ -263,9 +254,6 @@ list_goes S M T r mid q n opens goes =
     (λ w limit high. subst (λ ks. CborLeads w limit (cbor_state_at r (InArgument ListHead 0 n)) [] (start_list (Some n) ∷ [])
     (at After mid.held.items ks)) (sym opens.levels)
     (list_opens w limit n r.held.items mid.held.items (levels_of r)))
-
-pub map_room : (r : Reader) (n : ℕ) → IsAt r (InArgument MapHead 0 n) → length (levels_of r) < most_levels
-map_room r n there = let room = there.room in omega arith
 
 pub map_owed : (S : StandsFor) (r : Reader) (n : ℕ) → Reached S (cbor_state_at r (InArgument MapHead 0 n))
     → Owed S (start_object (Some n)) (opened r (AMap n))
@@ -324,9 +312,6 @@ argument_begins S r j k v there some =
     (record { there = record { room = there.room; keeps = there.keeps }; begun = some })
     (takes_none S)
     (λ w limit high. leads_none w limit (cbor_state_at r (InArgument j k v)))
-
-pub argument_whole : (r : Reader) (j : Subject) (k v : ℕ) → k ≡ 0 → IsAt r (InArgument j k v) → IsAt r (InArgument j 0 v)
-argument_whole r j k v e there = subst (λ x. IsAt r (InArgument j x v)) e there
 
 pub whole_goes : (S T : StandsFor) (r q : Reader) (j : Subject) (k v : ℕ) → k ≡ 0 → CborGoes S r [] (InArgument j 0 v) [] T q
     → CborGoes S r [] (InArgument j k v) [] T q

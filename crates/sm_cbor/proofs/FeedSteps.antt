@@ -2,7 +2,7 @@
 use Rattle.std.proofs.Common.{Ok, Err, ◌≡◌, ℕ, ◌+◌, ◌-◌, ◌≤◌, ◌<◌, inl, inr, true, false, List, [], ◌∷◌, ◌++◌, refl, sym, ap, subst, ◌∙◌}
 use Rattle.std.proofs.Common.{arith, length, take, drop, get_or, length-drop}
 use Rattle.std.proofs.Math.Seq.{take-add}
-use Rattle.std.proofs.lemmas.List.{take_more, drop_more, take_all}
+use Rattle.std.proofs.lemmas.List.{drop_more, take_all}
 use Rattle.sm_tree.proofs.ListEnds.{rest_of}
 use Rattle.sm_tree.specs.Node.{Node, null, bool, int, number, text, bytes, tag, opaque, list, object, no_nodes, node, no_members, member}
 use Rattle.sm_tree.specs.Timing.{TimedEvent}
@@ -113,11 +113,6 @@ refusal_within M T q x c n NoMemory some h = tt
 pub whole_goes : (S T : StandsFor) (r q : Reader) (bs : List ℕ) (i : ℕ) → length bs ≤ i → CborGoes S r [] r.place (take i bs) T q
     → CborGoes S r [] r.place bs T q
 whole_goes S T r q bs i all h = subst (λ v. CborGoes S r [] r.place v T q) (take_all i bs all) h
-
--- one byte is a prefix
-pub byte_prefix : (S T : StandsFor) (r q : Reader) (bs : List ℕ) → 0 < length bs → CborGoes S r [] r.place (get_or bs 0 0 ∷ []) T q
-    → CborTakesPrefix S r bs T q (Ok 1)
-byte_prefix S T r q bs some h = (omega arith, omega arith, subst (λ v. CborGoes S r [] r.place v T q) (sym (take_more bs 0 0 some)) h)
 
 -- no item in no bytes
 item_owed : (w : Keys) (n : Node) (r : List ℕ) → ItemBytes (key_of w) n [] r → ⊥

@@ -296,10 +296,6 @@ none_begins c is (more, n, no_text, item) =
 pub item_bad : (r : Reader) (c : ℕ) → HeadIs c NoItem → IsBadByte (cbor_state_at r Item) c
 item_bad r c is = record { stops = λ limit. item_stops plain limit c r.held.items (levels_of r) is; no_key = inr (none_begins c is) }
 
--- a key that is a text
-pub key_there : (r : Reader) (c k v : ℕ) → IsAt r Key → StartsNumber (c % 32) k v → IsAt r (InArgument (StringHead KeyText Whole) k v)
-key_there r c k v there starts = record { room = there.room; keeps = (tt, start_bound (c % 32) k v starts, tt) }
-
 pub key_begins : (S T : StandsFor) (r q : Reader) (c k v : ℕ) → c / 32 ≡ 3 → StartsNumber (c % 32) k v
     → CborGoes S r [] (InArgument (StringHead KeyText Whole) k v) [] T q → CborGoes S r [] Key (c ∷ []) T q
 key_begins S T r q c k v is starts goes =

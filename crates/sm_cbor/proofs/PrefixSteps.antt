@@ -32,7 +32,7 @@ use Rattle.sm_cbor.proofs.ArgumentSteps.{argument_byte, string_begins}
 use Rattle.sm_cbor.proofs.StringSteps.{text_run, text_end, key_end}
 use Rattle.sm_cbor.proofs.Readings.{leads_none, leads_joined, goes_by, goes_with, goes_to}
 use Rattle.sm_cbor.proofs.Arguments.{number_more}
-use Rattle.sm_cbor.proofs.InitialSteps.{in_room, argument_there, argument_deep, byte_bound, bound_word}
+use Rattle.sm_cbor.proofs.InitialSteps.{in_room, argument_deep, byte_bound, bound_word}
 use Rattle.sm_cbor.proofs.ByteSteps.{argument_more}
 
 less_one : (k : ℕ) → suc k - 1 ≡ k
@@ -155,13 +155,6 @@ both_leads : (w : Keys) (limit : ℕ) (bs run : List ℕ) (n len : ℕ) (x y z :
 both_leads w limit bs run n len x y z e behind h g =
     subst (λ v. CborLeads w limit x v (e ∷ []) z) (ap (λ v. take len bs ++ v) behind.0 ∙ sym (take-add len n bs))
     (leads_joined w limit x y z (take len bs) run [] (e ∷ []) h g)
-
--- so the reader takes a head
-pub head_there : (r : Reader) (bs : List ℕ) (j : Subject) (n len : ℕ) → IsAt r Item → HasHead bs j n len
-    → (opens_of j ≡ 1 → length (levels_of r) < most_levels) → IsAt r (InArgument j 0 n)
-head_there r bs j n len there head more =
-    number_there r head.left head.value n j (drop 1 (take len bs)) head.no_bits head.argument
-    (argument_there r (slice_index bs 0) head.left head.value j there head.initial more)
 
 pub head_goes : (S T : StandsFor) (r q : Reader) (bs : List ℕ) (j : Subject) (n len : ℕ) → IsAt r Item → HasHead bs j n len
     → CborGoes S r [] (InArgument j 0 n) [] T q → CborGoes S r [] Item (take len bs) T q

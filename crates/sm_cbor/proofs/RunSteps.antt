@@ -9,7 +9,7 @@ use Rattle.sm_tree.specs.Limits.{most_levels}
 use Rattle.sm_bytes.specs.declared.utf8.Utf8.{Utf8}
 use Rattle.sm_bytes.specs.declared.utf8.Utf8.TheVariants.{Between, Second, LastTwo, Last}
 use Rattle.sm_bytes.specs.Utf8 as utf8
-use Rattle.sm_bytes.proofs.Characters.{utf8_runs, over, whole_then}
+use Rattle.sm_bytes.proofs.Characters.{utf8_runs, whole_then}
 use Rattle.std.proofs.lemmas.Bool.{cases_lt}
 use Rattle.std.proofs.lemmas.Bool.Decides.{nat_tests}
 use Rattle.sm_tree.specs.Streams.{StandsFor}
@@ -85,15 +85,6 @@ run_goes S r h kind span n place next run e there fits held some =
     (takes_none S)
     (run_leads r h kind span n place next run fits1 held))
 
-pub run_end_there : (r : Reader) (h : Vec ℕ Global) (kind : StringKind) (span : Span) (n : ℕ) (place next : Utf8) (run : List ℕ)
-    → r.place ≡ String kind span n place → IsAt r r.place → RunFits r.place next run
-    → h.items ≡ r.held.items ++ run → n - length run ≡ 0 → IsAt (record r { held = h }) (String kind span 0 Between)
-run_end_there r h kind span n place next run e there fits held none =
-    let fits1 = subst (λ p. RunFits p next run) e fits in
-    let q = run_there r h kind span n place next run (subst (IsAt r) e there) fits1 held in
-    subst (λ u. IsAt (record r { held = h }) (String kind span 0 u)) (none_owed next (n - length run) none fits1.1)
-    (subst (λ m. IsAt (record r { held = h }) (String kind span m next)) none q)
-
 pub run_ends : (S T : StandsFor) (r q : Reader) (h : Vec ℕ Global) (kind : StringKind) (span : Span) (n : ℕ) (place next : Utf8)
     (run : List ℕ)
     → r.place ≡ String kind span n place → RunFits r.place next run
@@ -146,19 +137,6 @@ text_fits p n place run (kind, span, other, e) between few whole =
       λ u. (
         (λ h. text_onward kind Between Between run u is (same u) h),
         (λ h. text_back kind Between Between run u is (same u) h),
-      ),
-    )
-
-pub byte_fits : (p : CborPlace) (n c : ℕ) (place next : Utf8) → IsTextPlace p n place → utf8.step place c ≡ Some next → utf8.owed next < n
-    → RunFits p next (c ∷ [])
-byte_fits p n c place next (kind, span, other, e) step room =
-    let is = is_text kind other in
-    subst (λ x. RunFits x next (c ∷ [])) (sym e) (
-      omega arith,
-      omega arith,
-      λ u. (
-        (λ h. text_onward kind place next (c ∷ []) u is (over place next c u step) h),
-        (λ h. text_back kind place next (c ∷ []) u is (over place next c u step) h),
       ),
     )
 

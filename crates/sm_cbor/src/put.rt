@@ -1,6 +1,6 @@
 // Heads and strings of CBOR, written into bytes that are there already, from a place on: the next place comes back, and
 // what lies behind it may change.
-ghost use Rattle.std.specs.Prelude.{◌≡◌, ◌+◌, ◌<◌, ◌≤◌, ◌++◌, ℤ, length, take};
+ghost use Rattle.std.specs.Prelude.{◌≡◌, ◌+◌, ◌<◌, ◌≤◌, ◌++◌, length, take};
 ghost use Rattle.sm_cbor.specs.Written.{int_type, int_argument, two_bytes, four_bytes, eight_bytes, written_head, written_int};
 ghost use Rattle.sm_cbor.specs.Written.{written_text_item};
 

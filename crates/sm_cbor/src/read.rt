@@ -2,7 +2,7 @@
 // read by a machine over bytes, which says what the bytes are and where they stop being an item. It stands at one place of
 // the item, hands each event on as soon as its bytes are complete, and never looks back. It makes trees too, since no
 // clause says that recursive descent gives up no item.
-ghost use Rattle.std.specs.Prelude.{◌≡◌, ◌<◌, ◌↔◌, IsTrue, OnOk, length, []};
+ghost use Rattle.std.specs.Prelude.{◌≡◌, ◌<◌, ◌↔◌, IsTrue, length, []};
 ghost use Rattle.sm_tree.specs.Syntax.{Reads};
 ghost use Rattle.sm_cbor.specs.Refusals.{cbor_syntax};
 ghost use Rattle.sm_cbor.specs.steps.Rest.{first_state};

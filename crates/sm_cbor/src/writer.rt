@@ -1,6 +1,6 @@
 // A writer of CBOR that takes a tree event by event. Heads tell the number of what follows, so an opener must tell it, and an
 // end writes nothing: no state is kept beside the bytes.
-ghost use Rattle.std.specs.Prelude.{◌≡◌, ◌+◌, ◌++◌, ◌∷◌, [], ◌<◌, true, List, length, take, OnOk, OnErr, IfOk, IsSome, IfSome};
+ghost use Rattle.std.specs.Prelude.{◌≡◌, ◌+◌, ◌++◌, ◌∷◌, [], ◌<◌, true, List, length, OnOk, OnErr, IsSome, IfSome};
 ghost use Rattle.sm_tree.specs.Events.{NodeEvent};
 ghost use Rattle.sm_tree.specs.Streams.{TakesOn, TakesSame};
 ghost use Rattle.sm_tree.specs.EventView.{event_of};

@@ -1,6 +1,6 @@
 -- Lists and pairs that are written one after the other, and what encoding promises of its tree.
 use Rattle.std.proofs.Common.{◌≡◌, ℕ, Bool, true, false, List, [], ◌∷◌, ◌++◌, refl, sym, ap, ◌∙◌, subst, append-nil}
-use Rattle.std.specs.Prelude.{◌↔◌, IsTrue, Option, Some, None, Result, Ok, Err, IfOk, reverse}
+use Rattle.std.specs.Prelude.{◌↔◌, IsTrue, Option, Some, Result, Ok, Err, IfOk, reverse}
 use Rattle.std.proofs.lemmas.List.{reverse-append}
 use Rattle.sm_tree.specs.declared.path.Step.{Step}
 use Rattle.sm_tree.specs.Node.{Node, Nodes, Members, no_nodes, no_members, nodes_of, members_of}
@@ -50,9 +50,6 @@ none_told (path ∷ paths) b h = (λ t. absurd (not_both b t h), λ e. absurd cc
 -- the first of some paths, turned round
 pub first_told : (paths : List (List Step)) (steps : List Step) → FoundFirst paths (Some steps) → Some (reverse steps) ≡ first_path paths
 first_told paths steps h = ap first_path (sym h.1)
-
-pub none_first_told : (paths : List (List Step)) → FoundFirst paths None → None ≡ first_path paths
-none_first_told paths h = ap first_path (sym h)
 
 -- the first of a part is the first of what has it, one step further
 pub found_under : {E : Type 0} (step : Step) (paths whole more : List (List Step)) (path : List Step) (r : Result (Option (List Step)) E)

@@ -1,9 +1,9 @@
 -- Events handed to a sink one after the other: what may come next, and what came.
-use Rattle.std.proofs.Common.{◌≡◌, ℕ, suc, true, List, [], ◌∷◌, ◌++◌, length, refl, sym, ap, ◌∙◌, subst, append-nil, append_assoc}
+use Rattle.std.proofs.Common.{◌≡◌, ℕ, suc, List, [], ◌∷◌, ◌++◌, length, refl, sym, ap, ◌∙◌, subst, append-nil, append_assoc}
 use Rattle.sm_tree.specs.Node.{Node, Nodes, Members, null, bool, int, number, text, bytes, tag, opaque, list, object, no_nodes, node}
 use Rattle.sm_tree.specs.Node.{no_members, member}
 use Rattle.sm_tree.specs.Events.{NodeEvent, key_event, tag_event, start_list, start_object}
-use Rattle.sm_tree.specs.Streams.{StandsFor, Takes, BeginsStream, TakesSame, TakesEach, TakesOn, Streams, numbered, numbered_entries}
+use Rattle.sm_tree.specs.Streams.{StandsFor, Takes, BeginsStream, TakesSame, TakesEach, Streams, numbered, numbered_entries}
 use Rattle.sm_tree.specs.Streams.{numbered_pairs, entry_count, pair_count}
 use Rattle.sm_tree.proofs.Handing.{begins_before, takes_none, takes_both}
 use Rattle.sm_tree.proofs.Streams.{numbered_stream}
@@ -11,12 +11,9 @@ use Rattle.std.specs.Prelude.{Some, Result, Ok, Err, OnOk}
 use Rattle.sm_shapes.specs.Values.{Val, vals_of, entries_of, fields_of}
 use Rattle.sm_shapes.specs.TableData.{TableData}
 use Rattle.sm_shapes.specs.Places.{Place}
-use Rattle.sm_shapes.specs.declared.fault.FaultKind.TheVariants.{WrongType}
-use Rattle.sm_codec.specs.declared.simple.Simple.{Simple}
-use Rattle.sm_codec.specs.Convention.{Convention, IsConvention, nested_fault}
+use Rattle.sm_codec.specs.Convention.{Convention}
 use Rattle.sm_codec.specs.Written.{written_entries, written_pairs, written_fields}
-use Rattle.sm_codec.specs.steps.EventsHanded.{IsReady, Came, CameUpTo, IsLeafNode, list_stream, object_stream, pair_stream}
-use Rattle.sm_codec.proofs.WrittenValues.{two_results}
+use Rattle.sm_codec.specs.steps.EventsHanded.{IsReady, Came, CameUpTo, list_stream, object_stream, pair_stream}
 
 mutual
   -- what follows a tree's events follows them
@@ -81,10 +78,6 @@ came_both S M N T U V a b first second = record {
   stands = takes_both S M N a b first.stands second.stands;
   same = λ e h. second.same e (first.same e h);
 }
-
--- one event
-pub came_one : (S M : StandsFor) (T U : Takes) (e : NodeEvent) → TakesOn S e M → TakesSame T U → Came S T (e ∷ []) M U
-came_one S M T U e on same = record { stands = on; same = same }
 
 -- none yet, one piece more, and the last piece
 pub come_none : (S : StandsFor) (T : Takes) (out : List NodeEvent) → IsReady S T out → CameUpTo S T out S T out
@@ -170,22 +163,6 @@ pub fields_counted : (t : TableData) (l : Convention) (p : Place) (fs : List (�
     → pair_count (written_fields t l p (fields_of fs)) ≡ length fs
 fields_counted t l p [] = refl
 fields_counted t l p (f ∷ fs) = ap suc (fields_counted t l p fs)
-
--- what is written for a leaf is one
-is_leaf_by : (l : Convention) (x : Simple) (v : Val) (n : Node) → IsConvention l → l.read x n ≡ Ok v → IsLeafNode n
-is_leaf_by l x v null laws h = tt
-is_leaf_by l x v (bool b) laws h = tt
-is_leaf_by l x v (int z) laws h = tt
-is_leaf_by l x v (number t) laws h = tt
-is_leaf_by l x v (text t) laws h = tt
-is_leaf_by l x v (bytes t) laws h = tt
-is_leaf_by l x v (opaque b) laws h = tt
-is_leaf_by l x v (tag k n) laws h = λ nested. two_results v (nested_fault l x k) (l.read x (tag k n)) h (laws.nested x k n nested)
-is_leaf_by l x v (list ns) laws h = two_results v WrongType (l.read x (list ns)) h (laws.no_list x ns)
-is_leaf_by l x v (object ms) laws h = two_results v WrongType (l.read x (object ms)) h (laws.no_object x ms)
-
-pub is_leaf : (l : Convention) (x : Simple) (v : Val) → IsConvention l → l.carries x v ≡ true → IsLeafNode (l.write x v)
-is_leaf l x v laws h = is_leaf_by l x v (l.write x v) laws (laws.written_reads x v h)
 
 -- the same where the last piece may be refused
 pub then_came : {A E : Type 0} (S M N : StandsFor) (T U V : Takes) (a b : List NodeEvent) (r : Result A E) → Came S T a M U

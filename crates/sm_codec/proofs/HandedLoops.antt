@@ -1,6 +1,6 @@
 -- Lists whose events are handed on, one element after the other: what may come next, and what came.
 use Rattle.std.proofs.Common.{◌≡◌, ℕ, suc, ◌+◌, ◌<◌, length, get_or, drop, Bool, true, false, cond, List, []}
-use Rattle.std.proofs.Common.{◌∷◌, ◌++◌, refl, sym, ap, ◌∙◌, subst, arith}
+use Rattle.std.proofs.Common.{◌∷◌, ◌++◌, refl, sym, ap, ◌∙◌, subst}
 use Rattle.std.specs.Prelude.{Option, None, Some, Result, OnOk}
 use Rattle.std.proofs.lemmas.List.{drop_more, length-map}
 use Rattle.sm_tree.specs.Node.{Node, Members, text, member, no_members}
@@ -89,15 +89,6 @@ among_hold t leaf (Some ks) (field k v fs) h = by (is_written (Some ks) k) (amon
         → FieldsHold t leaf (cond b (field k v (fields_among (Some ks) fs)) (fields_among (Some ks) fs))
     by true g = (h.0, h.1, g)
     by false g = g
-
-pub count_next : (o : Option (List ℕ)) (k : ℕ) (v : Val) (fs : FieldVals)
-    → field_count (fields_among o (field k v fs)) ≡ cond (is_written o k) 1 0 + field_count (fields_among o fs)
-count_next o k v fs = ap field_count (among_next o k v fs) ∙ by (is_written o k)
-  where
-    by : (b : Bool) → field_count (cond b (field k v (fields_among o fs)) (fields_among o fs))
-        ≡ cond b 1 0 + field_count (fields_among o fs)
-    by true = omega arith
-    by false = omega arith
 
 pub pairs_of_fields : (t : TableData) (l : Convention) (p : Place) (fs : FieldVals) → pair_count (written_fields t l p fs) ≡ field_count fs
 pairs_of_fields t l p no_fields = refl

@@ -1,36 +1,19 @@
 -- A leaf at a place: by the place's simple type, and by the first constraint that its value breaks.
-use Rattle.std.proofs.Common.{◌≡◌, Bool, false, List, [], ◌∷◌, refl, sym, ap, ◌∙◌, subst}
+use Rattle.std.proofs.Common.{◌≡◌, Bool, false, [], ◌∷◌, refl, sym, ap, ◌∙◌, subst}
 use Rattle.std.specs.Prelude.{Some, None, Ok, Err}
 use Rattle.sm_tree.specs.Node.{Node}
 use Rattle.sm_shapes.specs.Values.{Val}
-use Rattle.sm_shapes.specs.TableData.{TableData}
-use Rattle.sm_shapes.specs.InOrder.{Shaped, NamesPattern}
-use Rattle.sm_shapes.specs.Places.{Place, root_place, member_place, constraints_of}
-use Rattle.sm_shapes.specs.Broken.{first_broken}
+use Rattle.sm_shapes.specs.Places.{Place}
 use Rattle.sm_shapes.specs.declared.fault.FaultKind.{FaultKind}
 use Rattle.sm_shapes.specs.declared.fault.FaultKind.TheVariants.{WrongType}
 use Rattle.sm_codec.specs.declared.simple.Simple.{Simple}
 use Rattle.sm_codec.specs.Sorts.{Sort, simple, a_list, a_map, a_structure, a_union, left_out, simple_in}
-use Rattle.sm_codec.specs.Codec.{Codec, InTable, broken_at}
+use Rattle.sm_codec.specs.Codec.{Codec, broken_at}
 use Rattle.sm_codec.specs.FaultLists.{Reading, here, settled}
 use Rattle.sm_codec.specs.Readings.{one_here, leaf_by, leaf_reading}
 use Rattle.sm_codec.specs.Decoding.{Outcome, good, bad}
 use Rattle.sm_codec.specs.Kept.{IsOutcome}
 use Rattle.sm_codec.specs.steps.Arrivals.{IsArrival, comes}
-
-pub place_pattern : (t : TableData) (p : Place) → Shaped t → InTable t p → NamesPattern t (constraints_of t p).pattern
-place_pattern t (root_place s) h i = h.shape_patterns s i
-place_pattern t (member_place k) h i = h.member_patterns k i
-
--- what a value comes to, by the first that it breaks
-pub none_broken : (kinds : List FaultKind) (v : Val) → first_broken kinds ≡ None → IsOutcome (settled (here kinds) v) (good v)
-none_broken [] v h = refl
-none_broken (k ∷ ks) v h = absurd cc
-
-pub one_broken : (kinds : List FaultKind) (v : Val) (kind : FaultKind) → first_broken kinds ≡ Some kind
-    → IsOutcome (settled (here kinds) v) (bad ([], kind))
-one_broken [] v kind h = absurd cc
-one_broken (k ∷ ks) v kind h = let same : k ≡ kind = cc in (([], k), here ks, refl, ap (λ x. bad ([], x)) (sym same))
 
 -- a fault of the leaf itself
 pub bad_here : (kind : FaultKind) → IsOutcome (Err (one_here kind)) (bad ([], kind))

@@ -1,10 +1,10 @@
 -- What a list's frame comes to where the list ends is the list's outcome.
-use Rattle.std.proofs.Common.{◌≡◌, Bool, true, false, ◌&&◌, cond, List, [], ◌∷◌, ◌++◌, refl, sym, ap, subst}
+use Rattle.std.proofs.Common.{◌≡◌, Bool, true, false, ◌&&◌, cond, List, [], ◌∷◌, ◌++◌, refl, sym, subst}
 use Rattle.std.specs.Prelude.{Option, Some, None}
 use Rattle.sm_tree.specs.Node.{Node}
 use Rattle.sm_shapes.specs.Values.{Val, list_val, vals_of}
 use Rattle.sm_shapes.specs.Places.{Place, constraints_of, unique_of}
-use Rattle.sm_shapes.specs.Broken.{first_broken, length_broken, has_twice}
+use Rattle.sm_shapes.specs.Broken.{length_broken, has_twice}
 use Rattle.sm_shapes.specs.declared.fault.FaultKind.{FaultKind}
 use Rattle.sm_shapes.specs.declared.fault.FaultKind.TheVariants.{Unique}
 use Rattle.sm_codec.specs.Codec.{Codec}
@@ -14,17 +14,6 @@ use Rattle.sm_codec.specs.Decoding.{bad, EntryFrame}
 use Rattle.sm_codec.specs.Kept.{HoldsEntries, IsOutcome}
 use Rattle.sm_codec.specs.steps.EntrySteps.{list_ended, list_end}
 use Rattle.sm_codec.proofs.EntryArrives.{list_fault, list_ends}
-
--- the first that the number of entries breaks
-pub ended_first : (kinds : List FaultKind) (kind : FaultKind) (twice : Bool) (vs : List Val) → first_broken kinds ≡ Some kind
-    → bad ([], kind) ≡ list_ended None kinds twice vs
-ended_first [] kind twice vs h = absurd cc
-ended_first (k ∷ ks) kind twice vs h = let same : k ≡ kind = cc in ap (λ x. bad ([], x)) (sym same)
-
-pub ended_clean : (kinds : List FaultKind) (twice : Bool) (vs : List Val) → first_broken kinds ≡ None
-    → list_ended None [] twice vs ≡ list_ended None kinds twice vs
-ended_clean [] twice vs h = refl
-ended_clean (k ∷ ks) twice vs h = absurd cc
 
 -- without a fault of an entry
 clean_outcome : (kinds : List FaultKind) (twice : Bool) (vs : List Val)

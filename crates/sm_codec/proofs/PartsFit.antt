@@ -1,6 +1,6 @@
 -- Of a value that fits, each part stands at a place of the table; and where all is carried, so is each leaf.
-use Rattle.std.proofs.Common.{◌≡◌, ℕ, suc, Bool, true, false, cond, List, [], ◌++◌, refl, ap, ◌∙◌, subst}
-use Rattle.std.specs.Prelude.{IsUtf8, Option, None, Some}
+use Rattle.std.proofs.Common.{◌≡◌, ℕ, suc, Bool, List, [], subst}
+use Rattle.std.specs.Prelude.{IsUtf8}
 use Rattle.sm_tree.specs.declared.path.Step.TheVariants.{Member, Index, Key}
 use Rattle.sm_shapes.specs.Values.{Val, Vals, EntryVals, FieldVals, null_val, bool_val, int_val, text_val, blob_val, time_val, list_val}
 use Rattle.sm_shapes.specs.Values.{map_val, structure_val, union_val, no_vals, val, no_entries, entry, no_fields, field}
@@ -14,7 +14,6 @@ use Rattle.sm_codec.specs.Convention.{Convention}
 use Rattle.sm_codec.specs.Sorts.{Sort, simple, a_list, a_map, a_structure, a_union, left_out, sort_of}
 use Rattle.sm_codec.specs.Codec.{InTable}
 use Rattle.sm_codec.specs.Written.{uncarried, uncarried_leaf, uncarried_entries, uncarried_pairs, uncarried_fields, paths_under}
-use Rattle.sm_codec.specs.WrittenObjects.{is_written, fields_among}
 use Rattle.sm_codec.specs.steps.ValueParts.{PartsHold, EntriesHold, PairsHold, FieldsHold, any_leaf, IsCarried, carried_leaf}
 use Rattle.sm_codec.proofs.NoFaults.{none_first, none_behind}
 use Rattle.sm_codec.proofs.PlacesIn.{members_stand, stand_at, member_splits, entry_in, value_in}
@@ -156,19 +155,3 @@ mutual
         parts_carried t l v q h.1 (none_of_paths (Member (name_at t k)) (uncarried t l q v) (none_first first rest g)),
         fields_carried t l fs h.2 (none_behind first rest g),
       )
-
--- of fields that are all carried, those of some members are
-pub among_carried : (t : TableData) (l : Convention) (o : Option (List ℕ)) (fs : FieldVals) → uncarried_fields t l fs ≡ []
-    → uncarried_fields t l (fields_among o fs) ≡ []
-among_carried t l None fs g = g
-among_carried t l (Some ks) no_fields g = refl
-among_carried t l (Some ks) (field k v fs) g =
-    let first = paths_under (Member (name_at t k)) (uncarried t l (member_place k) v) in
-    let rest = uncarried_fields t l fs in
-    by (is_written (Some ks) k) (none_first first rest g) (among_carried t l (Some ks) fs (none_behind first rest g))
-  where
-    by : (b : Bool) → paths_under (Member (name_at t k)) (uncarried t l (member_place k) v) ≡ []
-        → uncarried_fields t l (fields_among (Some ks) fs) ≡ []
-        → uncarried_fields t l (cond b (field k v (fields_among (Some ks) fs)) (fields_among (Some ks) fs)) ≡ []
-    by true h more = ap (λ xs. xs ++ uncarried_fields t l (fields_among (Some ks) fs)) h ∙ more
-    by false h more = more

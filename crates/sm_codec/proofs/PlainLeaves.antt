@@ -11,25 +11,21 @@ use Rattle.std.proofs.Math.Pow.{pow_mono}
 use Rattle.std.proofs.lemmas.Str.{is_utf8-from_IsUtf8, IsUtf8-from_is_utf8}
 use Rattle.base64.specs.Engines.{standard}
 use Rattle.base64.specs.GeneralPurpose.{IsBytes, decode_of}
-use Rattle.base64.specs.declared.decode.DecodeError.{DecodeError}
 use Rattle.sm_tree.specs.Node.{text}
 use Rattle.sm_time.specs.declared.format.Format.{Format}
 use Rattle.sm_time.specs.declared.format.TimeRefusal.{TimeRefusal}
 use Rattle.sm_time.specs.TimeText.{TimeText}
 use Rattle.sm_time.specs.Answers.{ReadsStamp}
-use Rattle.sm_time.specs.StampTexts.{stamp_of, TellsStamp, is_stamp}
+use Rattle.sm_time.specs.StampTexts.{stamp_of, TellsStamp}
 use Rattle.sm_time.proofs.OneAnswer.{one_answer}
-use Rattle.sm_time.specs.declared.format.Format.TheVariants.{DateTime, HttpDate, EpochSeconds}
-use Rattle.sm_time.specs.Written.{IsWritable}
 use Rattle.sm_time.proofs.StampForms.{and_second}
 use Rattle.sm_time.proofs.StampTold.{stamp_told}
-use Rattle.sm_shapes.specs.Values.{text_val, blob_val, time_val}
+use Rattle.sm_shapes.specs.Values.{text_val, blob_val}
 use Rattle.sm_shapes.specs.declared.fault.FaultKind.TheVariants.{WrongType, Base64}
 use Rattle.sm_codec.specs.declared.simple.Simple.{Simple}
 use Rattle.sm_codec.specs.declared.simple.Simple.TheVariants as the
 use Rattle.sm_codec.specs.Convention.{are_bytes, is_of}
-use Rattle.sm_codec.specs.Conventions.{read_text, read_base64, decoded_blob, json_carries, node_carries, has_text, format_of_simple}
-use Rattle.sm_codec.proofs.TextLeaves.{date_writable}
+use Rattle.sm_codec.specs.Conventions.{read_text, read_base64, decoded_blob, node_carries}
 
 -- the stamp that is read is the one that is told, and where none is read none is told
 abbrev ok_stamp : ℤ → Result ℤ TimeRefusal
@@ -67,23 +63,6 @@ bytes_are (b ∷ u) h =
 
 pub base64_is_read : (u b : List ℕ) → decode_of standard u ≡ Ok b → IsBytes b → read_base64 (text u) ≡ Ok (blob_val b)
 base64_is_read u b h bytes = ap decoded_blob h ∙ ap (λ c. cond c (Ok (blob_val b)) (Err Base64)) (bytes_are b bytes)
-
-pub base64_is_refused : (u : List ℕ) (e : DecodeError) → decode_of standard u ≡ Err e → read_base64 (text u) ≡ Err Base64
-base64_is_refused u e h = ap decoded_blob h
-
--- a stamp that JSON carries has a text of its format
-pub carried_time : (x : Simple) (ms : ℤ) → json_carries x (time_val ms) ≡ true → has_text (format_of_simple x) ms ≡ true
-carried_time the.Blob ms h = absurd cc
-carried_time the.Boolean ms h = absurd cc
-carried_time the.Text ms h = absurd cc
-carried_time (the.Number bits) ms h = absurd cc
-carried_time (the.Time format) ms h = and_second (is_stamp ms) (has_text format ms) h
-
--- where a format has a text of a stamp, it is written
-pub text_writable : (format : Format) (ms : ℤ) → has_text format ms ≡ true → IsWritable format ms
-text_writable DateTime ms h = tt
-text_writable HttpDate ms h = date_writable ms h
-text_writable EpochSeconds ms h = tt
 
 -- bytes that nodes carry as a text are one
 pub carried_raw : (x : Simple) (u : List ℕ) → node_carries true x (blob_val u) ≡ true → IsUtf8 u

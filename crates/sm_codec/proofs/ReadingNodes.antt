@@ -1,6 +1,6 @@
 -- How many nodes the value has that a list or an object comes to at a place, by those of its parts: itself, its parts, and for a structure
 -- a node for each default.
-use Rattle.std.proofs.Common.{◌≡◌, inl, inr, ℕ, zero, suc, ◌+◌, ◌≤◌, Bool, true, false, cond, List, [], ◌∷◌, ◌++◌, map, refl, sym, ap}
+use Rattle.std.proofs.Common.{◌≡◌, inl, inr, ℕ, zero, suc, ◌+◌, ◌≤◌, Bool, true, false, cond, List, [], ◌∷◌, map, refl, sym, ap}
 use Rattle.std.proofs.Common.{arith}
 use Rattle.std.specs.Prelude.{Option, Some, None, Result, Ok, Err, slice_get}
 use Rattle.std.specs.List.Sorted.{IsStrictlySortedBy}
@@ -22,8 +22,6 @@ use Rattle.sm_codec.specs.CodecLaws.{IsCodec}
 use Rattle.sm_codec.specs.Convention.{IsConvention, is_of, nested_fault}
 use Rattle.sm_codec.specs.FaultLists.{FaultAt, here, Reading, values_in, settled}
 use Rattle.sm_codec.specs.Kept.{each_field, spelled_fields, each_entry, spelled_entries}
-use Rattle.sm_codec.specs.MapView.{held_entry}
-use Rattle.sm_shapes.specs.declared.values.Value.{Value}
 use Rattle.sm_codec.specs.Named.{named, names_of, in_byte_order}
 use Rattle.sm_codec.specs.Readings.{Child, under_names, one_here, leaf_reading, leaf_by, entry_reading, entries_values, list_faults}
 use Rattle.sm_codec.specs.Readings.{list_reading, keyed, pair_values, keys_values, pairs_values, map_faults, map_reading, absent_with}
@@ -80,12 +78,6 @@ entries_total (e ∷ es) = omega (arith, entries_total es)
 pub fields_total : (fs : List (ℕ × Val)) → fields_nodes (fields_of fs) ≡ keyed_nodes fs
 fields_total [] = refl
 fields_total (f ∷ fs) = omega (arith, fields_total fs)
-
--- of one key more, with a value or without
-pub held_total : (key : List ℕ) (o : Option Value) (es : List (List ℕ × Val))
-    → entries_nodes (entries_of (held_entry key o ++ es)) ≡ entries_nodes (entries_of (held_entry [] o)) + entries_nodes (entries_of es)
-held_total key None es = omega arith
-held_total key (Some v) es = omega arith
 
 one_node : (x : Simple) (v : Val) → is_of x v ≡ true → val_nodes v ≡ 1
 one_node the.Blob (blob_val u) h = refl

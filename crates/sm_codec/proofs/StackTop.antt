@@ -1,12 +1,11 @@
 -- The innermost of a decoder's frames stands last in their vector.
 use Rattle.std.proofs.Common.{◌≡◌, ℕ, ◌<◌, ◌-◌, ◌+◌, List, [], ◌∷◌, ◌++◌, map, reverse, length, get_or, set, refl, sym, ap, ◌∙◌, subst}
 use Rattle.std.proofs.Common.{arith}
-use Rattle.std.specs.Prelude.{Option, Some, None, slice_get}
-use Rattle.std.specs.Option.{option_map, option_to_list}
+use Rattle.std.specs.Prelude.{Some, slice_get}
+use Rattle.std.specs.Option.{option_map}
 use Rattle.std.proofs.lemmas.List.{map-append, reverse-append}
 use Rattle.sm_codec.specs.Decoding as decoding
-use Rattle.sm_codec.specs.StackView.{frame_of, stack_of, first_of, IsPopped}
-use Rattle.sm_codec.specs.steps.OpeningSteps.{below}
+use Rattle.sm_codec.specs.StackView.{frame_of, stack_of, first_of}
 use Rattle.sm_codec.specs.declared.frames.Frame.{Frame}
 
 pub pushed : (fs : List Frame) (f : Frame) → stack_of (fs ++ f ∷ []) ≡ frame_of f ∷ stack_of fs
@@ -63,12 +62,3 @@ lent_changed (f ∷ fs) n x g long some is =
       ap (λ xs. stack_of (set xs (n - 1) g)) split.2 ∙ ap (λ m. stack_of (set (front ++ y ∷ []) m g)) place
           ∙ ap stack_of (set_end front y g) ∙ pushed front g,
     )
-
--- where the last goes
-pub popped_to : (fs gs : List Frame) (o : Option Frame) → fs ≡ gs ++ option_to_list o → (o ≡ None → gs ≡ [])
-    → IsPopped (stack_of fs) o (stack_of gs) × (stack_of gs ≡ below (stack_of fs))
-popped_to fs gs None e none =
-    let nothing : fs ≡ [] = e ∙ ap (λ xs. xs ++ []) (none refl) in
-    (ap stack_of nothing, ap stack_of (none refl) ∙ sym (ap (λ xs. below (stack_of xs)) nothing))
-popped_to fs gs (Some f) e none =
-    let top = ap stack_of e ∙ pushed gs f in (top, sym (ap below top))

@@ -20,14 +20,14 @@ use Rattle.sm_codec.specs.Walk.{Level, list_level, object_level, pair_level, Due
 use Rattle.sm_codec.specs.Walk.{due_member, due_within, member_at}
 use Rattle.sm_codec.specs.steps.Arrivals.{Arrival, comes, IsArrival, null_where, read_where, level_with}
 use Rattle.sm_codec.specs.steps.DecoderSteps.{place_among, FirstCanTake, TakenBy, frame_end, FirstCanEnd, EndedBy}
-use Rattle.sm_codec.specs.steps.OpeningSteps.{FirstCanName, FirstNames, LeafTaken, with_silence, list_start, object_start}
+use Rattle.sm_codec.specs.steps.OpeningSteps.{FirstNames, LeafTaken, with_silence, list_start, object_start}
 use Rattle.sm_codec.specs.steps.Standing.{AwaitsTree, IsDueAt}
 use Rattle.sm_codec.specs.steps.WalkSteps.{is_list, is_object, IsLeafAt, next_place, WalkReady, TreeTaken, LevelAt, ListSoFar, PairsSoFar}
 use Rattle.sm_codec.specs.steps.WalkSteps.{PairReady, PairTaken}
 use Rattle.sm_codec.proofs.DuePlaces.{place_known}
 use Rattle.sm_codec.proofs.LeafPlaces.{outcome_arrives}
 use Rattle.sm_codec.proofs.MapClosing.{map_starts}
-use Rattle.sm_codec.proofs.NameMoves.{named_by, can_name}
+use Rattle.sm_codec.proofs.NameMoves.{named_by}
 use Rattle.sm_codec.proofs.PlacesHeld.{member_in}
 use Rattle.sm_codec.proofs.PlacesIn.{kind_of_sort, entry_in, value_in}
 use Rattle.sm_codec.proofs.Starting.{structure_starts, list_starts}
@@ -212,11 +212,6 @@ module _ (c : Codec) (d now : Decoding) (all rest : List (List ℕ × Node)) (sh
 
   pub object_ended : (e : Decoding) → EndedBy c.table c.test now.shape now.frames e → TreeTaken c (object (members_of all)) d e
   object_ended e by = level_ended c (in_object all) d now e shaped tt ready root whole by
-
--- a pair: its name comes, and then the tree at its place, or nothing where it is of no member
-pub can_be_named : (c : Codec) (d : Decoding) (name : List ℕ) → Shaped c.table → PairReady c d → FirstCanName c.table d.frames
-can_be_named c d name shaped (p, ms, fs, inside, at) =
-    subst (FirstCanName c.table) (sym at.1.1) (can_name c p ms name at.1.0 shaped inside at.1.2)
 
 abbrev BehindName : Codec → Place → Due → Type 0
 BehindName c p due = ((q : Place) × (due ≡ due_at q) × InTable c.table q) ⊎ (due ≡ due_passed 0 None)

@@ -1,17 +1,17 @@
 -- What an event changes in where the events stand: the innermost level alone, and an opener and an end one more and one less.
-use Rattle.std.proofs.Common.{◌≡◌, ℕ, true, List, [], ◌∷◌, ◌++◌, map, refl, sym, ap, ◌∙◌}
+use Rattle.std.proofs.Common.{◌≡◌, ℕ, true, List, [], ◌∷◌, ◌++◌, refl, sym, ap, ◌∙◌}
 use Rattle.std.specs.Prelude.{Option, None}
 use Rattle.sm_tree.specs.Node.{Node}
-use Rattle.sm_tree.specs.Building.{Building, nothing, whole, within, Inner, in_list, in_object, in_pair, Around, around_list}
-use Rattle.sm_tree.specs.Building.{around_object, inner_awaits, awaits_value}
-use Rattle.sm_tree.specs.steps.BuilderSteps.{with_tree, with_tag, put_around, back_inside, after_start}
+use Rattle.sm_tree.specs.Building.{Inner, in_list, in_object, in_pair, Around, around_list}
+use Rattle.sm_tree.specs.Building.{around_object, inner_awaits}
+use Rattle.sm_tree.specs.steps.BuilderSteps.{with_tree, with_tag, put_around, back_inside}
 use Rattle.sm_shapes.specs.Places.{Place, entry_place}
 use Rattle.sm_shapes.specs.declared.fault.FaultKind.{FaultKind}
 use Rattle.sm_codec.specs.Sorts.{Sort, simple, a_list, a_map, a_structure, a_union, left_out}
 use Rattle.sm_codec.specs.Codec.{Codec, sort_at}
 use Rattle.sm_codec.specs.Decoding.{Frame, Decoding}
 use Rattle.sm_codec.specs.Walk.{Level, list_level, object_level, pair_level, Due, due_at, due_tagged, due_passed, due_nowhere, Opened}
-use Rattle.sm_codec.specs.Walk.{opened_at, opened_passed, inner_level, around_level, levels_open, behind_tag, behind_name, list_by_sort}
+use Rattle.sm_codec.specs.Walk.{opened_at, opened_passed, inner_level, around_level, behind_tag, behind_name, list_by_sort}
 use Rattle.sm_codec.specs.Walk.{object_by_sort, opened, opened_where, due_within, with_level}
 use Rattle.sm_codec.specs.Kept.{due_frames, FrameHolds, FramesHold}
 use Rattle.sm_codec.specs.steps.Arrivals.{level_with, level_tagged}
@@ -43,13 +43,6 @@ level_awaits (in_list ns ts) h = tt
 level_awaits (in_object ms) h = absurd cc
 level_awaits (in_pair ms name ts) h = tt
 
--- an opener: one level more
-pub levels_started : (new : Inner) (b : Building) → awaits_value b ≡ true
-    → levels_open (after_start new b) ≡ inner_level new ∷ levels_open b
-levels_started new (nothing ts) h = refl
-levels_started new (whole n) h = absurd cc
-levels_started new (within ts i outer) h = ap (λ l. inner_level new ∷ l ∷ map around_level outer) (level_around i h)
-
 -- how a level opened is told by its kind alone
 pub opened_tagged : (c : Codec) (k : ℕ) (l : Level) (due : Due) → opened c (level_tagged k l) due ≡ opened c l due
 opened_tagged c k (list_level ns ts) due = refl
@@ -60,10 +53,6 @@ pub opened_with : (c : Codec) (n : Node) (l : Level) (due : Due) → opened c (l
 opened_with c n (list_level ns ts) due = refl
 opened_with c n (object_level ms) due = refl
 opened_with c n (pair_level ms name ts) due = refl
-
-pub opened_named : (c : Codec) (ms : List (List ℕ × Node)) (name : List ℕ) (due : Due)
-    → opened c (pair_level ms name []) due ≡ opened c (object_level ms) due
-opened_named c ms name due = refl
 
 -- a tag in a level
 pub due_tag : (c : Codec) (o : Opened) (l : Level) (k : ℕ) → AwaitsTree l

@@ -13,7 +13,7 @@ use Rattle.std.specs.declared.cmp.Ordering.TheVariants.{Equal, Greater, Less}
 use Rattle.std.proofs.lemmas.Bool.{cases_eq, cases_lt}
 use Rattle.std.proofs.lemmas.List.{drop-drop, drop_all, get_or-drop, get_or-replicate, get_or-set_other, get_or-set_same, get_or-take}
 use Rattle.std.proofs.lemmas.List.{get_or_default, get_or_past, length-drop, length-replicate, length-take, map-append, take-append-drop}
-use Rattle.std.proofs.lemmas.List.{take_all, take_more}
+use Rattle.std.proofs.lemmas.List.{take_more}
 use Rattle.std.proofs.lemmas.List.Elements.{All-contains, Contains-append_cases, Contains-append_left, Contains-append_right}
 use Rattle.std.proofs.lemmas.List.Elements.{Contains-get_or, Contains-push, Contains-push_cases}
 use Rattle.std.proofs.lemmas.Option.{none-some, same_Some}
@@ -228,9 +228,6 @@ under_row first rows i r small is olds mids before within =
     subst (λ ks. IsPutUnder first ks olds (set mids r.1 (Some first))) (sym parts)
     (under_next first r.1 (values_of (take i rows)) olds mids before within)
 
-pub under_none : (first : ℕ) (olds : List (Option ℕ)) → IsPutUnder first [] olds olds
-under_none first olds k = inr (λ there. contains_none k there, refl)
-
 -- one more run
 module _ (rows : List (List ℕ × ℕ)) (texts : HaveOneText rows) (begin count : ℕ) (olds news : List (Option ℕ))
     (before : AreGathered rows begin olds)
@@ -350,10 +347,6 @@ module _ (rows : List (List ℕ × ℕ)) (texts : HaveOneText rows) (begin count
     differ = λ r s there behind same. none_behind r s (subst (λ rs. Contains rs r) parts there)
         (subst (λ rs. Contains rs s) (sym (drop-drop count begin rows)) behind) same;
   }
-
-pub gathered_all : (rows : List (List ℕ × ℕ)) (n : ℕ) (firsts : List (Option ℕ)) → length rows ≤ n → AreGathered rows n firsts
-    → AreTogether (HasRow rows) firsts
-gathered_all rows n firsts all are = subst (λ rs. AreTogether (HasRow rs) firsts) (take_all n rows all) are.together
 
 -- rows of a graph in another order
 module _ (g : Graph) (xs ys : List (List ℕ × ℕ)) (moved : IsPermutation xs ys) (are : AreRoutes g xs) where

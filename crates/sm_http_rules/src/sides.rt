@@ -1,5 +1,5 @@
 // Which shapes stand on the sides of messages of HTTP, as marks.
-ghost use Rattle.std.specs.Prelude.{◌≡◌, ◌⊎◌, IfOk, get_or, length};
+ghost use Rattle.std.specs.Prelude.{◌≡◌, IfOk, length};
 ghost use Rattle.sm_model.specs.GraphView.{IsShapeNumber, entries_of, maps_of};
 ghost use Rattle.sm_model.specs.Reaching.{AreMarks, id_of_number};
 ghost use Rattle.sm_model.specs.Relations.{IsRelated};

@@ -13,12 +13,6 @@ pub as_on : {V X : Type 0} {A : Class} (H : Class) (view : V → X) (P : Product
 as_on H view P p s r (Ok v) h = read_wider P (view v) s r (λ t n. absurd n) (whole_read P p (view v) s r h)
 as_on H view P p s r (Err stop) h = stop_wider P s r stop (λ t n. absurd n) h
 
--- by a wider class
-pub on_wider : {V X : Type 0} (G H : Class) (view : V → X) (P : Production X) (s r : Tokens) (result : Result V ReadStop)
-    → ((t : _) → G t → H t) → ReadsOn G view P s r result → ReadsOn H view P s r result
-on_wider G H view P s r (Ok v) wider h = read_wider P (view v) s r wider h
-on_wider G H view P s r (Err stop) wider h = stop_wider P s r stop wider h
-
 -- behind what was read
 pub as_behind : {V X Y : Type 0} {E : Type 0} {A : Class} (view : V → Y) (P : Production X) (Q : X → Production Y) → IsFirm E A NoToken P
     → (x : X) (s a r : Tokens) (result : Result V ReadStop) → P.whole x s a → ReadsAs view (Q x) a r result

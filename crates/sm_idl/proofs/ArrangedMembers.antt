@@ -1,7 +1,6 @@
 -- The members of a list and of a map, by their names.
 use Rattle.std.proofs.Common.{◌≡◌, ◌⊎◌, inl, inr, ℕ, if◌then◌else◌, List, [], ◌∷◌, ◌++◌, codes}
 use Rattle.std.proofs.Common.{Some, None, Vec, refl, sym, ap, subst, ◌∙◌, length, arith, slice_index_or}
-use Rattle.std.specs.List.{swap}
 use Rattle.std.specs.declared.alloc.Global.{Global}
 use Rattle.std.proofs.lemmas.List.{length-map}
 use Rattle.sm_model.specs.Said.{MemberSaid}
@@ -138,18 +137,3 @@ pub pair_kept : (v : Vec MemberStatement Global) (d : MemberStatement) → lengt
     → AreNamed (form_of Pair) [] (member_statements_view v.items) → ((slice_index_or v.items 0 d).name ≡ codes "value" → ⊥)
     → Arranges (form_of Pair) (member_statements_view v.items) (Some v)
 pair_kept v d two named none = pair_first v.items d two named none
-
-pair_second : (xs ys : List MemberStatement) (d : MemberStatement) → length xs ≡ 2 → ys ≡ swap xs 0 1
-    → AreNamed (form_of Pair) [] (member_statements_view xs) → (slice_index_or xs 0 d).name ≡ codes "value"
-    → HasMembers (form_of Pair) (member_statements_view xs) × (member_statements_view ys ≡ arranged (form_of Pair)
-    (member_statements_view xs))
-pair_second [] ys d e s named v = absurd (omega (arith, e))
-pair_second (m ∷ []) ys d e s named v = absurd (omega (arith, e))
-pair_second (m ∷ (o ∷ [])) ys d e s named v =
-    let turned = pair_turned (member_view m) (member_view o) named v in (turned.0, ap member_statements_view s ∙ turned.1)
-pair_second (m ∷ (o ∷ (p ∷ xs))) ys d e s named v = absurd (omega (arith, e))
-
-pub pair_swapped : (v w : Vec MemberStatement Global) (d : MemberStatement) → length v.items ≡ 2 → w.items ≡ swap v.items 0 1
-    → AreNamed (form_of Pair) [] (member_statements_view v.items) → (slice_index_or v.items 0 d).name ≡ codes "value"
-    → Arranges (form_of Pair) (member_statements_view v.items) (Some w)
-pair_swapped v w d two s named value = pair_second v.items w.items d two s named value

@@ -46,13 +46,6 @@ loose_firm {A = A} {B = B} {G = G} {H = H} P Q p q apart =
     firm_wider (λ e. tt) (λ t s. elim s [ inl a ↦ inl a | inr b ↦ inr b.1 ]) (λ t s. elim s [ inl h ↦ inl h | inr b ↦ inr b.1 ])
     (firm_both (Unit {0}) (Unit {0}) A B G H P Q p q apart)
 
--- one that takes tokens behind one that ends by a token that doesn't begin it
-pub next_firm : {X Y : Type 0} {A B G H : Class} (P : Production X) (Q : X → Production Y) → IsFirm ⊥ A G P
-    → ((x : X) → IsFirm ⊥ B H (Q x)) → AreApart G B → IsFirm ⊥ A H (P >>= Q)
-next_firm {A = A} {B = B} {G = G} {H = H} P Q p q apart =
-    firm_wider (λ e. e.0) (λ t s. elim s [ inl a ↦ a | inr b ↦ absurd b.0 ]) (λ t s. elim s [ inl h ↦ h | inr b ↦ absurd b.0 ])
-    (firm_both ⊥ ⊥ A B G H P Q p q apart)
-
 -- or one that may be none
 pub tail_firm : {X Y : Type 0} {A B G H : Class} (P : Production X) (Q : X → Production Y) → IsFirm ⊥ A G P
     → ((x : X) → IsFirm (Unit {0}) B H (Q x)) → AreApart G B → IsFirm ⊥ A (Either H G) (P >>= Q)

@@ -1,12 +1,10 @@
 -- Whether a pair stands ahead, by the kind of the next token.
 use Rattle.std.proofs.Common.{◌≡◌, ◌↔◌, inl, inr, ℕ, Bool, true, false, List, [], ◌∷◌}
-use Rattle.std.proofs.Common.{Option, Some, None, Ok, Err, not, IsTrue, codes, refl, sym, ap}
+use Rattle.std.proofs.Common.{Option, Ok, Err, not, IsTrue, codes, refl, sym, ap}
 use Rattle.std.proofs.Common.{subst, ◌∙◌, true≢false, bytes_eq}
 use Rattle.std.specs.Prelude.{◌||◌}
 use Rattle.std.specs.Prelude.{IsOk}
-use Rattle.sm_lex.specs.Tokens.{lexeme_of}
 use Rattle.sm_lex.specs.Values.{string_value}
-use Rattle.sm_lex.specs.declared.token.Token.{Token}
 use Rattle.sm_lex.specs.declared.token.TokenKind.TheVariants.{Word, Text}
 use Rattle.sm_tree.specs.Node.{null, bool, text}
 use Rattle.sm_tree.proofs.Equal.{bytes_equal_is}
@@ -14,19 +12,9 @@ use Rattle.sm_model.specs.Raw.{Raw, raw_leaf}
 use Rattle.sm_idl.specs.Productions.{Spaced, Tokens}
 use Rattle.sm_idl.specs.Words.{IsWordId}
 use Rattle.sm_idl.specs.Nodes.{Home, word_meant, WordSays, LeafSaid, LeafSays}
-use Rattle.sm_idl.specs.steps.ReaderView.{TakesToken}
-use Rattle.sm_idl.specs.steps.Firm.{Class, HeadIs}
+use Rattle.sm_idl.specs.steps.Firm.{HeadIs}
 use Rattle.sm_idl.specs.steps.Classes.{AMark, NodeStart, PairAhead}
-use Rattle.sm_idl.proofs.TokenLists.{no_tokens, tails, head_moved}
 use Rattle.sm_idl.proofs.FirmNodes.{key_no_mark}
-
--- what stands behind the next token
-pub behind_next : (C : Class) (s r : Tokens) (o : Option Token) → TakesToken s r o → (b : Bool) → IsTrue b ↔ HeadIs C r
-    → (t : Spaced) (q : Tokens) → s ≡ t ∷ q → IsTrue b ↔ HeadIs C q
-behind_next C s r None h b k t q e = absurd (no_tokens t q (sym h.0 ∙ e))
-behind_next C s r (Some x) h b k t q e =
-    let same : r ≡ q = tails (record { space = h.0; token = lexeme_of x }) t r q (sym h.1 ∙ e) in
-    ((λ m. head_moved C r q same (k.0 m)), (λ m. k.1 (head_moved C q r (sym same) m)))
 
 not_true : (b : Bool) → (IsTrue b → ⊥) → IsTrue (not b)
 not_true true n = absurd (n refl)

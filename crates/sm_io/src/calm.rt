@@ -1,5 +1,5 @@
 // Objects over memory that never fail: their counts of faults are the constant 0.
-ghost use Rattle.std.specs.Prelude.{◌≡◌, ◌<◌, ℕ, [], All, length, min, Ok, Some};
+ghost use Rattle.std.specs.Prelude.{◌≡◌, ◌<◌, [], All, length, min, Ok, Some};
 ghost use Rattle.std.specs.Io.{ReadsAtMost};
 ghost use Rattle.sm_io.specs.Reading.{TakesBytes};
 ghost use Rattle.sm_io.specs.Script.{script_after, most_given};

@@ -1,5 +1,5 @@
 // Files in memory whose reads and writes never fail: their counts of faults are the constant 0.
-ghost use Rattle.std.specs.Prelude.{◌≡◌, List, ℕ, ⊤, Some, OnOk, OnErr, IsErrOf, option_copied};
+ghost use Rattle.std.specs.Prelude.{◌≡◌, ⊤, Some, OnOk, OnErr, IsErrOf, option_copied};
 ghost use Rattle.std.specs.FinMap.{get};
 ghost use Rattle.sm_io.specs.Files.{folder_of, with_file, WritesFile};
 ghost use Rattle.sm_io.specs.Files.Others.{empty_file};

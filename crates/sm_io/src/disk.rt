@@ -1,5 +1,5 @@
 // Files by their paths, over the files of std. They tell nothing of what they hold.
-ghost use Rattle.std.specs.Prelude.{◌≡◌, ◌≤◌, List, ℕ, length, ⊤, None, IfOk, IsErrOf};
+ghost use Rattle.std.specs.Prelude.{◌≡◌, ◌≤◌, length, ⊤, None, IfOk, IsErrOf};
 ghost use Rattle.sm_io.specs.Causes.{HasCause, count_after};
 ghost use Rattle.sm_io.specs.Files.{ReadsFile, WritesFile, file_failed};
 

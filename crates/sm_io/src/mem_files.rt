@@ -1,5 +1,5 @@
 // Files in memory whose reads and writes fail in the calls they were told, and reads of names without a file.
-ghost use Rattle.std.specs.Prelude.{◌≡◌, ◌≤◌, ◌↔◌, ◌⊎◌, List, ℕ, [], ⊤, None, Some, OnOk, OnErr, IsErrOf, IsTrue, option_copied};
+ghost use Rattle.std.specs.Prelude.{◌≡◌, ◌≤◌, ◌↔◌, ◌⊎◌, [], ⊤, None, Some, OnOk, OnErr, IsErrOf, IsTrue, option_copied};
 ghost use Rattle.sm_io.specs.Causes.{HasCause, count_after};
 ghost use Rattle.sm_io.specs.Files.{file_at, file_failed, folder_of, with_file, ReadsFile, WritesFile};
 ghost use Rattle.sm_io.specs.Files.Others.{nothing};

@@ -1,5 +1,5 @@
 // Objects over memory that fail in the calls they were told.
-ghost use Rattle.std.specs.Prelude.{◌≡◌, ◌<◌, ◌≤◌, ◌↔◌, ℕ, [], All, length, min, IfOk, OnErr, is_err, IsErr, IsErrOf, IsTrue, Some};
+ghost use Rattle.std.specs.Prelude.{◌≡◌, ◌<◌, ◌≤◌, ◌↔◌, [], All, length, min, IfOk, OnErr, is_err, IsErr, IsErrOf, IsTrue, Some};
 ghost use Rattle.std.specs.Io.{ReadsAtMost};
 ghost use Rattle.sm_io.specs.Causes.{HasCause, count_after};
 ghost use Rattle.sm_io.specs.Reading.{TakesBytes};

@@ -1,28 +1,16 @@
 -- What a byte makes of a place behind a backslash or a high surrogate.
-use Rattle.std.proofs.Common.{◌≡◌, ◌↔◌, ◌≢◌, ℕ, Some, None, List, ◌∷◌, inl, inr, refl, sym, ap, ◌∙◌, subst, arith}
+use Rattle.std.proofs.Common.{◌≡◌, ◌↔◌, ℕ, Some, None, List, ◌∷◌, inl, inr, refl, ap, ◌∙◌, subst, arith}
 use Rattle.std.specs.Char.{IsScalar}
 use Rattle.sm_json.specs.declared.spot.UnitDigits.{UnitDigits}
 use Rattle.sm_json.specs.declared.spot.UnitDigits.TheVariants.{First, Second, Third, Fourth}
 use Rattle.sm_json.specs.declared.spot.CharacterPart.TheVariants.{Escape as BehindBackslash, Unit as InUnit, LowBackslash, LowLetter}
 use Rattle.sm_json.specs.declared.spot.CharacterPart.TheVariants.{LowUnit}
-use Rattle.sm_json.specs.declared.spot.SpotStep.TheVariants.{Within, Whole, Refused}
+use Rattle.sm_json.specs.declared.spot.SpotStep.TheVariants.{Within, Refused}
 use Rattle.sm_bytes.specs.Escapes.{short_escape, IsHigh, IsLow, joined}
 use Rattle.sm_json.specs.Strings.{HexDigits, CodeUnit, Escape}
 use Rattle.sm_json.specs.steps.TextRest.{DigitsRest, UnitRest, PartRest}
 use Rattle.sm_json.specs.steps.TextSteps.{IsLowBegun, CodeEnd, StepsTo, PartSteps}
-use Rattle.sm_json.proofs.Starts.{some_same}
 use Rattle.sm_json.proofs.Units.{SameRest, LastDigit, digits_range_1, digits_range_2, digits_range_3}
-
--- behind a backslash: a short escape
-short_there : (x d : ℕ) → short_escape x ≡ Some d → (x ≢ 117) → (c : ℕ) (s r : List ℕ) → Escape c (x ∷ s) r → (c ≡ d) × (s ≡ r)
-short_there x d e other c s r (inl h) = let f : short_escape x ≡ short_escape h.0 = ap short_escape (let g : x ≡ h.0 = cc in g) in
-    (some_same c d (sym h.2 ∙ (sym f ∙ e)), cc)
-short_there x d e other c s r (inr (inl h)) = absurd (other cc)
-short_there x d e other c s r (inr (inr h)) = absurd (other (let g = h.2.1 in cc))
-
-pub short_taken : (x d : ℕ) → short_escape x ≡ Some d → x ≢ 117 → IsScalar d → PartSteps BehindBackslash x (Whole d)
-short_taken x d e other scalar =
-    (scalar, λ c s r k. (short_there x d e other c s r, λ h. inl (x, ap (λ l. x ∷ l) h.1, e ∙ ap Some (sym h.0))))
 
 -- behind a backslash: the letter of a code unit
 letter_there : (c : ℕ) (s r : List ℕ) → Escape c (117 ∷ s) r → UnitRest First c s r
@@ -40,12 +28,6 @@ letter_taken = (
   ),
 )
 
-pub escape_refused : (x : ℕ) → short_escape x ≡ None → x ≢ 117 → PartSteps BehindBackslash x Refused
-escape_refused x e other c s r k (inl h) = let f : None ≡ Some c = sym e
-    ∙ (ap short_escape (let g : x ≡ h.0 = cc in g) ∙ h.2) in absurd (cc)
-escape_refused x e other c s r k (inr (inl h)) = other cc
-escape_refused x e other c s r k (inr (inr h)) = other (let g = h.2.1 in cc)
-
 -- behind a high surrogate: the backslash and the letter of the low one
 pub low_backslash_taken : (high : ℕ) → IsHigh high → PartSteps (LowBackslash high) 92 (Within (LowLetter high))
 low_backslash_taken high is_high = (
@@ -56,9 +38,6 @@ low_backslash_taken high is_high = (
   ),
 )
 
-pub low_backslash_refused : (high x : ℕ) → x ≢ 92 → PartSteps (LowBackslash high) x Refused
-low_backslash_refused high x other c s r k h = other (let e = h.2 in cc)
-
 pub low_letter_taken : (high : ℕ) → IsHigh high → PartSteps (LowLetter high) 117 (Within (LowUnit high First))
 low_letter_taken high is_high = (
   (is_high, tt),
@@ -67,9 +46,6 @@ low_letter_taken high is_high = (
     λ h. (h.0, (s, refl, h.1), h.2, h.3),
   ),
 )
-
-pub low_letter_refused : (high x : ℕ) → x ≢ 117 → PartSteps (LowLetter high) x Refused
-low_letter_refused high x other c s r k h = other (let e = h.1.1 in cc)
 
 -- the digits of a low surrogate
 pub low_same : (high : ℕ) (old new : UnitDigits) (x : ℕ) → SameRest old x new → (c : ℕ) (s r : List ℕ) → IsScalar c
@@ -90,19 +66,12 @@ pub low_ends : (high : ℕ) (old : UnitDigits) (x u : ℕ) → IsLow u → LastD
     → PartRest (LowUnit high old) c (x ∷ s) r ↔ CodeEnd (joined high u) c s r
 low_ends high old x u low same c s r k = (low_ends_there high old x u same c s r, λ h. (u, (same u s r).1 (refl, h.1), low, h.0))
 
-pub low_no_digit : (high : ℕ) (old : UnitDigits) (x : ℕ) → ((v : ℕ) (s r : List ℕ) → DigitsRest old v (x ∷ s) r → ⊥)
-    → PartSteps (LowUnit high old) x Refused
-low_no_digit high old x none c s r k h = none h.0 s r h.1
-
 -- digits that begin no low surrogate
 low_begun : (d : UnitDigits) (v : ℕ) (s r : List ℕ) → DigitsRest d v s r → IsLow v → IsLowBegun d
 low_begun First v s r h low = tt
 low_begun (Second n) v s r h low = let range = digits_range_3 n v s r h in (omega arith, omega arith)
 low_begun (Third n) v s r h low = let range = digits_range_2 n v s r h in (omega arith, omega arith)
 low_begun (Fourth n) v s r h low = let range = digits_range_1 n v s r h in (omega arith, omega arith)
-
-pub low_goes : (high : ℕ) (d : UnitDigits) → IsHigh high → IsLowBegun d → StepsTo (PartRest (LowUnit high d)) (Within (LowUnit high d))
-low_goes high d is_high begun = ((is_high, begun), λ c s r k. (λ h. h, λ h. h))
 
 pub low_refused : (high : ℕ) (d : UnitDigits) → (IsLowBegun d → ⊥) → StepsTo (PartRest (LowUnit high d)) Refused
 low_refused high d not_begun c s r k h = not_begun (low_begun d h.0 s r h.1 h.2)

@@ -1,9 +1,9 @@
 -- Which bytes may come behind a value: with them some text goes on, and with others none does.
 use Rattle.std.specs.Prelude.{Bool, IsTrue, ◌↔◌}
-use Rattle.std.proofs.Common.{◌≡◌, ℕ, ◌≤◌, ◌⊎◌, inl, inr, true, false, List, [], ◌∷◌, ◌++◌, None, refl, sym, subst, arith, length}
+use Rattle.std.proofs.Common.{◌≡◌, ℕ, ◌≤◌, ◌⊎◌, inl, inr, true, false, List, [], ◌∷◌, ◌++◌, refl, sym, subst, arith, length}
 use Rattle.sm_tree.specs.Events.{NodeEvent}
 use Rattle.sm_tree.specs.Syntax.{most_levels}
-use Rattle.sm_tree.specs.Building.{first_kind, IsIn}
+use Rattle.sm_tree.specs.Building.{IsIn}
 use Rattle.sm_tree.specs.declared.build.OpenKind.{OpenKind}
 use Rattle.sm_tree.specs.declared.build.OpenKind.TheVariants.{List as a_list, Object as an_object}
 use Rattle.sm_json.specs.Strings.{is_whitespace}
@@ -12,9 +12,9 @@ use Rattle.sm_json.specs.steps.Machine.{lists_of, behind_value, Halts, MayFollow
 use Rattle.sm_json.specs.declared.read.Reader.{Reader}
 use Rattle.sm_json.proofs.Opening.{at}
 use Rattle.sm_json.proofs.White.{white_leads}
-use Rattle.sm_json.proofs.After.{list_goes_on, list_ends, list_stops, object_goes_on, object_ends, object_stops, end_stops}
+use Rattle.sm_json.proofs.After.{list_goes_on, list_ends, list_stops, object_goes_on, object_ends, object_stops}
 use Rattle.sm_json.proofs.Closing.{after_goes_on, value_goes_on, next_key_goes_on}
-use Rattle.sm_json.proofs.Readers.{room_in, inside, nothing_open}
+use Rattle.sm_json.proofs.Readers.{room_in, inside}
 
 -- what leads to a state from which some text goes on
 goes_with : (x y : JsonState) (w : List ℕ) (out : List NodeEvent) → JsonLeads most_levels x w out y → JsonGoesOn most_levels y []
@@ -73,10 +73,6 @@ pub no_pair_follows : (r : Reader) (c : ℕ) → IsIn an_object (lists_of r) →
 no_pair_follows r c within white other =
     let (ks, same) = inside (lists_of r) an_object within in
     subst (λ ls. Halts (at after ls) c) (sym same) (λ limit. object_stops limit c ks white (λ e. other (inl e)) (λ e. other (inr e)))
-
-pub none_follows : (r : Reader) (c : ℕ) → first_kind (lists_of r) ≡ None → is_whitespace c ≡ false → Halts (behind_value r) c
-none_follows r c none white =
-    subst (λ ls. Halts (at after ls) c) (sym (nothing_open (lists_of r) none)) (λ limit. end_stops limit c white)
 
 -- as tests
 pub entry_may_follow : (r : Reader) (c : ℕ) (result : Bool) → IsIn a_list (lists_of r) → is_whitespace c ≡ false

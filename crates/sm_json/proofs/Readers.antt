@@ -33,7 +33,7 @@ use Rattle.sm_json.proofs.Starts.{heads, StartsNumber, number_start}
 use Rattle.sm_json.proofs.Opening.{at, list_opens, object_opens, list_too_deep, object_too_deep}
 use Rattle.sm_json.proofs.Closing.{list_deeper, object_deeper}
 use Rattle.sm_json.proofs.Leaves.{string_begins, word_begins, number_begins, value_stops}
-use Rattle.sm_json.proofs.Between.{colon_leads, colon_stops, key_leads, key_stops, first_key_leads, first_key_stops, first_key_back}
+use Rattle.sm_json.proofs.Between.{colon_leads, colon_stops, key_leads, first_key_leads, first_key_stops, first_key_back}
 use Rattle.sm_json.proofs.Between.{object_empty, first_entry_leads, first_entry_stops, first_entry_back, list_empty}
 use Rattle.sm_json.proofs.After.{list_goes_on, list_ends, list_stops, object_goes_on, object_ends, object_stops, end_stops}
 
@@ -87,9 +87,6 @@ text_goes r Whole t e fresh =
     steps r (record r { place = Text Whole; text = t }) Value (34 ∷ []) [] e
     (at_start Whole t (lists_of r) (place_at r Value) (34 ∷ []) fresh
     (λ limit up. string_begins limit (lists_of r) (room_in r limit up))) tt
-
-pub key_halts : (r : Reader) (c : ℕ) → r.place ≡ NextKey → is_whitespace c ≡ false → c ≢ 34 → Halts (json_state r) c
-key_halts r c e w f = stops_from r NextKey c e (λ limit. key_stops limit c (lists_of r) w f)
 
 -- `n`, `t` and `f`
 word_keeps : (w : Literal) → 1 < length (letters w)

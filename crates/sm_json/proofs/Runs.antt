@@ -1,6 +1,6 @@
 -- Runs of characters that stand for themselves, and readings one after another.
 use Rattle.std.proofs.Common.{◌≡◌, ◌≢◌, ◌≤◌, ◌<◌, ◌+◌, ℕ, true, List, [], ◌∷◌, ◌++◌, append_assoc, append-nil, encode_utf8_all, take}
-use Rattle.std.proofs.Common.{drop, length, get_or, ◌-◌, ◌*◌, inl, inr, refl, sym, ap, ◌∙◌, subst, arith, IsUtf8}
+use Rattle.std.proofs.Common.{drop, length, ◌-◌, ◌*◌, inl, inr, refl, sym, ap, ◌∙◌, subst, arith, IsUtf8}
 use Rattle.std.specs.Char.{IsScalar}
 use Rattle.std.specs.List.{prefix_len}
 use Rattle.std.proofs.lemmas.Bool.{and_from}
@@ -114,25 +114,6 @@ run_four x y z w a b h t u =
     let low = low_four x y a h in
     let c = (((x - 240) * 64 + (y - 128)) * 64 + (z - 128)) * 64 + (w - 128) in
     run_one c (x ∷ y ∷ z ∷ w ∷ []) (four_scalar x y z w a b h t u c refl) (unescaped_high c (omega arith)) (four_encode x y z w a b h t u)
-
--- what the start of a list is
-pub take_two : (bs : List ℕ) → 2 ≤ length bs → take 2 bs ≡ get_or bs 0 0 ∷ get_or bs 1 0 ∷ []
-take_two [] h = absurd (omega arith)
-take_two (x ∷ []) h = absurd (omega arith)
-take_two (x ∷ y ∷ bs) h = refl
-
-pub take_three : (bs : List ℕ) → 3 ≤ length bs → take 3 bs ≡ get_or bs 0 0 ∷ get_or bs 1 0 ∷ get_or bs 2 0 ∷ []
-take_three [] h = absurd (omega arith)
-take_three (x ∷ []) h = absurd (omega arith)
-take_three (x ∷ y ∷ []) h = absurd (omega arith)
-take_three (x ∷ y ∷ z ∷ bs) h = refl
-
-pub take_four : (bs : List ℕ) → 4 ≤ length bs → take 4 bs ≡ get_or bs 0 0 ∷ get_or bs 1 0 ∷ get_or bs 2 0 ∷ get_or bs 3 0 ∷ []
-take_four [] h = absurd (omega arith)
-take_four (x ∷ []) h = absurd (omega arith)
-take_four (x ∷ y ∷ []) h = absurd (omega arith)
-take_four (x ∷ y ∷ z ∷ []) h = absurd (omega arith)
-take_four (x ∷ y ∷ z ∷ w ∷ bs) h = refl
 
 -- a run with a run behind it
 pub run_more : (n m : ℕ) (bs : List ℕ) → IsPlainRun (take n bs) → IsPlainRun (take m (drop n bs)) → IsPlainRun (take (n + m) bs)

@@ -1,13 +1,12 @@
 -- From the rests of a character to the rests of a string.
 use Rattle.std.proofs.Common.{◌≡◌, ◌↔◌, ◌⊎◌, ◌≢◌, ℕ, List, [], ◌∷◌, ◌++◌, append_assoc, encode_utf8_all, refl, sym, ◌∙◌, subst}
 use Rattle.std.specs.Char.{IsScalar, encode_utf8}
-use Rattle.sm_json.specs.declared.spot.CharacterPart.{CharacterPart}
-use Rattle.sm_json.specs.declared.spot.Spot.TheVariants.{Plain, Inside}
+use Rattle.sm_json.specs.declared.spot.Spot.TheVariants.{Plain}
 use Rattle.sm_json.specs.declared.spot.SpotStep.{SpotStep}
 use Rattle.sm_json.specs.declared.spot.SpotStep.TheVariants.{Within, Whole, Closed, Refused}
 use Rattle.sm_json.specs.Strings.{IsUnescaped, Escape, Characters}
 use Rattle.sm_json.specs.steps.TextRest.{PartRest, PlainRest}
-use Rattle.sm_json.specs.steps.TextSteps.{CharacterRest, StepsTo, PartSteps, StringSteps}
+use Rattle.sm_json.specs.steps.TextSteps.{CharacterRest, StepsTo, StringSteps}
 
 -- a step to the same rests
 pub steps_along : (R S : CharacterRest) (step : SpotStep) → ((c : ℕ) (s r : List ℕ) → IsScalar c → R c s r ↔ S c s r) → StepsTo S step
@@ -35,14 +34,6 @@ whole_there R d same b s t r x =
 whole_back : (R : CharacterRest) (d : ℕ) → IsScalar d → ((c : ℕ) (s r : List ℕ) → IsScalar c → R c s r ↔ ((c ≡ d) × (s ≡ r)))
     → (b s t r : List ℕ) → PlainRest (b ++ encode_utf8 d) s t r → Lifted R b s t r
 whole_back R d scalar same b s t r x = (d, s, scalar, (same d s s scalar).1 (refl, refl), x)
-
--- what a step within a character is to the string
-pub lifted : (p : CharacterPart) (x : ℕ) (step : SpotStep) → PartSteps p x step → StringSteps (Inside p) x step
-lifted p x (Within q) h = (h.0, lifted_same (λ c s r. PartRest p c (x ∷ s) r) (PartRest q) h.1)
-lifted p x (Whole d) h =
-    λ b s t r. (whole_there (λ c s r. PartRest p c (x ∷ s) r) d h.1 b s t r, whole_back (λ c s r. PartRest p c (x ∷ s) r) d h.0 h.1 b s t r)
-lifted p x Closed h = absurd h
-lifted p x Refused h = λ b s t r y. h y.0 s y.1 y.2 y.3
 
 -- the rest of a character that begins with the byte x
 abbrev pub BegunRest : ℕ → CharacterRest

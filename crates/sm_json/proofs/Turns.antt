@@ -527,10 +527,6 @@ turn_goes r q x S T U before behind bs i n inside h (some, few, g) =
     let within : n ≤ length bs - i = omega (arith, ap length (rest_of bs i), length-drop i bs) in
     (omega arith, then_front_goes r q x S T U before behind bs i n (omega arith) within h g)
 
-pub turn_grows : (q x : Reader) (S T : StandsFor) (takes : Takes) (bs : List ℕ) (n : ℕ) → JsonTakesPrefix q S bs x T takes (Ok n)
-    → 0 < n
-turn_grows q x S T takes bs n h = h.0
-
 -- whether the bytes may end here: never while something is open, behind a value always, and in a number where that is whole
 pub number_may_end : (r : Reader) (phase : Phase) (result : Bool) → JsonIsSound r → r.place ≡ Number phase → length (lists_of r) ≡ 0
     → (IsTrue result ↔ NumberTail phase []) → JsonMayEnd r result

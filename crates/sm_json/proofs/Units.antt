@@ -4,7 +4,7 @@ use Rattle.std.specs.Char.{IsScalar}
 use Rattle.sm_json.specs.declared.spot.UnitDigits.{UnitDigits}
 use Rattle.sm_json.specs.declared.spot.UnitDigits.TheVariants.{First, Second, Third, Fourth}
 use Rattle.sm_json.specs.declared.spot.CharacterPart.TheVariants.{LowBackslash}
-use Rattle.sm_json.specs.declared.spot.SpotStep.TheVariants.{Within, Whole, Refused}
+use Rattle.sm_json.specs.declared.spot.SpotStep.TheVariants.{Within, Refused}
 use Rattle.sm_bytes.specs.Escapes.{hex_value, IsHigh}
 use Rattle.sm_json.specs.Strings.{HexDigits, LowHalf}
 use Rattle.sm_json.specs.steps.TextRest.{DigitsRest, UnitRest}
@@ -73,23 +73,10 @@ unit_ends old x u same c s r = (
   λ h. elim h [ inl y ↦ inl ((same c s r).1 y) | inr y ↦ inr (u, s, (same u s s).1 (refl, refl), y.0, y.1) ],
 )
 
-pub unit_refused : (old : UnitDigits) (x : ℕ) → ((v : ℕ) (s r : List ℕ) → DigitsRest old v (x ∷ s) r → ⊥) → (c : ℕ) (s r : List ℕ)
-    → UnitRest old c (x ∷ s) r → ⊥
-unit_refused old x none c s r h = elim h [ inl y ↦ none c s r y | inr y ↦ none y.0 s y.1 y.2 ]
-
--- two digits of a low surrogate begin no character
-pub low_first_refused : (n c : ℕ) (s r : List ℕ) → 0xDC ≤ n → n < 0xE0 → IsScalar c → UnitRest (Third n) c s r → ⊥
-low_first_refused n c s r low high k (inl y) = let range = digits_range_2 n c s r y in no_surrogate c k (omega arith) (omega arith)
-low_first_refused n c s r low high k (inr y) = let range = digits_range_2 n y.0 s y.1 y.2 in omega arith
-
 -- a whole unit
 pub end_high : (u : ℕ) → IsHigh u → StepsTo (UnitEnd u) (Within (LowBackslash u))
 end_high u high =
     (high, λ c s r k. (λ h. elim h [ inl y ↦ absurd (no_surrogate c k (omega arith) (omega arith)) | inr y ↦ y.1 ], λ h. inr (high, h)))
-
-pub end_scalar : (u : ℕ) → IsScalar u → StepsTo (UnitEnd u) (Whole u)
-end_scalar u scalar =
-    (scalar, λ c s r k. (λ h. elim h [ inl y ↦ y | inr y ↦ absurd (no_surrogate u scalar (omega arith) (omega arith)) ], λ h. inl h))
 
 pub end_refused : (u : ℕ) → (IsHigh u → ⊥) → (IsScalar u → ⊥) → StepsTo (UnitEnd u) Refused
 end_refused u not_high no_scalar = λ c s r k h. elim h [ inl y ↦ no_scalar (subst IsScalar y.0 k) | inr y ↦ not_high y.0 ]
@@ -105,9 +92,6 @@ first_digit x d e v s r =
 
 pub second_digit : (n x d : ℕ) → hex_value x ≡ Some d → SameRest (Second n) x (Third (n * 16 + d))
 second_digit n x d e v s r = digit_taken 2 n v x d s r e
-
-pub third_digit : (n x d : ℕ) → hex_value x ≡ Some d → SameRest (Third n) x (Fourth (n * 16 + d))
-third_digit n x d e v s r = digit_taken 1 n v x d s r e
 
 pub fourth_digit : (n x d : ℕ) → hex_value x ≡ Some d → LastDigit (Fourth n) x (n * 16 + d)
 fourth_digit n x d e v s r = digit_taken 0 n v x d s r e

@@ -106,10 +106,6 @@ one_whole x y step a b h to =
     steps_along (λ c s r. PartRest (One x) c (y ∷ s) r) (CodeEnd ((x - 192) * 64 + (y - 128))) step
     (λ c s r k. sequence_ends ((x - 192) * 64 + (y - 128)) (x ∷ y ∷ []) (two_encode x y a b tail.0 tail.1) (omega arith) c s r k) to
 
--- behind two bytes
-pub two_goes : (x y z : ℕ) → 240 ≤ x → x < 245 → IsSecond x y → IsTail z → PartSteps (Two x y) z (Within (Three x y z))
-two_goes x y z a b h t = ((a, b, h, t), λ c s r k. (λ p. p, λ p. p))
-
 pub two_refused : (x y z : ℕ) → 224 ≤ x → (IsTail z → ⊥) → PartSteps (Two x y) z Refused
 two_refused x y z a none c s r k h = none (third_of c x y z s r (shape c k) a h.1)
 
@@ -133,10 +129,6 @@ three_whole x y z w step a b h t u to =
     step
     (λ c s r k. sequence_ends ((((x - 240) * 64 + (y - 128)) * 64 + (z - 128)) * 64 + (w - 128)) (x ∷ y ∷ z ∷ w ∷ [])
     (four_encode x y z w a b h t u) (omega arith) c s r k) to
-
--- between two characters: a character of one byte
-ascii_unescaped : (x : ℕ) → 32 ≤ x → x ≢ 34 → x ≢ 92 → IsUnescaped x
-ascii_unescaped x a b c = (a, b, c)
 
 one_encode : (x : ℕ) → x < 128 → encode x ≡ x ∷ []
 unfolding encode

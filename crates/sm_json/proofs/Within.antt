@@ -229,11 +229,6 @@ text_closes limit old b w t1 ks onward back =
     ))
     (λ s us en. (t1, s, us, back s, en, refl))
 
-pub string_stops : (limit : ℕ) (role : Role) (spot : Spot) (b : List ℕ) (c : ℕ) (ks : List OpenKind)
-    → ((s t r : List ℕ) → TextRest spot b (c ∷ s) t r → ⊥) → JsonStops limit (at (in_text role spot b) ks) c
-string_stops limit Key spot b c ks stop s ts (t, r, us, h, rest, timed) = stop s t r h
-string_stops limit Value spot b c ks stop s ts (t, r, us, h, rest, timed) = stop s t r h
-
 -- a run of bytes of a number
 pub number_bytes_lead : (limit : ℕ) (b w : List ℕ) (ks : List OpenKind) → AreNumberBytes w
     → JsonLeads limit (at (numeral b) ks) w [] (at (numeral (b ++ w)) ks)

@@ -1,6 +1,6 @@
 // Escapes in strings (RFC 8259, section 7), byte by byte: the short ones, code units in hexadecimal digits,
 // and pairs of surrogates.
-ghost use Rattle.std.specs.Prelude.{◌≡◌, ◌<◌, ◌≤◌};
+ghost use Rattle.std.specs.Prelude.{◌<◌};
 ghost use Rattle.sm_json.specs.declared.spot.UnitDigits.TheVariants.{Second, Third};
 ghost use Rattle.sm_json.specs.declared.spot.CharacterPart.TheVariants.{Escape as BehindBackslash, Unit as InUnit, LowBackslash};
 ghost use Rattle.sm_json.specs.declared.spot.CharacterPart.TheVariants.{LowLetter, LowUnit};

@@ -4,7 +4,7 @@ use Rattle.std.proofs.Common.{sym, ap, subst, ◌∙◌, arith, eqb, ◌&&◌}
 use Rattle.std.specs.Prelude.{Option, Some, None, codes, nat_eq}
 use Rattle.std.specs.Option.{option_map}
 use Rattle.std.specs.List.{starts_with}
-use Rattle.std.proofs.lemmas.List.{drop_more, drop-drop, drop_all, take_all, length-drop}
+use Rattle.std.proofs.lemmas.List.{drop_more, drop-drop, take_all, length-drop}
 use Rattle.std.proofs.lemmas.Bool.Decides.{nat_tests}
 use Rattle.sm_lex.specs.Lines.{is_backslash}
 use Rattle.sm_lex.specs.Tokens.{first_end, one_quote, three_quotes}
@@ -45,13 +45,6 @@ step_on ends c r misses = ap (λ b. cond b (Some 0) (option_map (λ n. n + 1) (f
 abbrev pub Searched : (List ℕ → Bool) → List ℕ → ℕ → Type 0
 Searched ends s at = first_end ends false s ≡ option_map (λ n. n + at) (first_end ends false (drop at s))
 
-pub searched_none : (ends : List ℕ → Bool) (s : List ℕ) → Searched ends s 0
-searched_none ends s = from_zero (first_end ends false s)
-  where
-    from_zero : (o : Option ℕ) → o ≡ option_map (λ n. n + 0) o
-    from_zero None = refl
-    from_zero (Some n) = let e : n ≡ n + 0 = omega arith in ap Some e
-
 pub searched_step : (ends : List ℕ → Bool) (s : List ℕ) (at : ℕ) → at < length s → ends (drop at s) ≡ false → Searched ends s at
     → Searched ends s (at + step_len (get_or s at 0))
 searched_step ends s at lt misses before =
@@ -63,19 +56,6 @@ searched_step ends s at lt misses before =
     (ap (drop (step_len c)) (sym split) ∙ drop-drop (step_len c) at s)
     in
     before ∙ ap (option_map (λ n. n + at)) moved ∙ twice (step_len c) at (first_end ends false (drop (at + step_len c) s))
-
-pub searched_found : (ends : List ℕ → Bool) (s : List ℕ) (at : ℕ) → at < length s → ends (drop at s) ≡ true → Searched ends s at
-    → Some at ≡ first_end ends false s
-searched_found ends s at lt hits before =
-    let c = get_or s at 0 in
-    let split : drop at s ≡ c ∷ drop (at + 1) s = drop_more s at 0 lt in
-    let here : first_end ends false (c ∷ drop (at + 1) s) ≡ Some 0 = ap
-    (λ b. cond b (Some 0) (option_map (λ n. n + 1) (first_end ends (is_backslash c) (drop (at + 1) s)))) (ap ends (sym split) ∙ hits) in
-    let zeroth : 0 + at ≡ at = omega arith in
-    sym (before ∙ ap (option_map (λ n. n + at)) (ap (first_end ends false) split ∙ here) ∙ ap Some zeroth)
-
-pub searched_all : (ends : List ℕ → Bool) (s : List ℕ) (at : ℕ) → length s ≤ at → Searched ends s at → None ≡ first_end ends false s
-searched_all ends s at past before = sym (before ∙ ap (λ r. option_map (λ n. n + at) (first_end ends false r)) (drop_all at s past))
 
 -- the tests that the code makes
 pub quote_at : (s : List ℕ) (at : ℕ) (b : Bool) → at < length s → eqb (get_or s at 0) 34 ≡ b → one_quote (drop at s) ≡ b

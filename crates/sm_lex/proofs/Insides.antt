@@ -20,12 +20,6 @@ quotes_cut opener k t u it some le =
     let quote : get_or t (k - 1) 0 ≡ 34 = it.opens (k - 1) (omega arith) in
     subst (IsCharBoundary t) same (IsCharBoundary-after_ascii t (k - 1) u (omega arith) (omega arith))
 
-pub string_inside_cut : (t behind inside : List ℕ) → 2 ≤ length t → behind ≡ drop 1 t → inside ≡ take (length behind - 1) behind
-    → inside ≡ string_inside t
-string_inside_cut t behind inside long behind_is inside_is =
-    let few : length behind - 1 ≡ length t - 2 = omega (arith, ap length behind_is, length-drop 1 t) in
-    inside_is ∙ ap (λ k. take k behind) few ∙ ap (take (length t - 2)) behind_is
-
 -- behind the line end of a block
 pub opener_cut : (t behind : List ℕ) (e : ℕ) → IsUtf8 t → IsQuoted (opener_len t) 3 t → behind ≡ drop 3 t → e ≡ line_end_len (drop 3 t)
     → IsCharBoundary behind e

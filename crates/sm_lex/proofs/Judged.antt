@@ -59,9 +59,6 @@ bad_line all indent old l at p s false e before here =
     bad_more all (line_kept indent l) (line_kept indent some.0) (map (line_kept indent) some.1) p
     (subst (λ ls. Judged all (map (line_kept indent) ls)) (e ∙ ap (λ t. l ∷ t) some.2) before) here
 
-pub judged_end : (all : Result (List ℕ) ℕ) (ls : List Line) → ls ≡ [] → Judged all ls → IsOk all
-judged_end all ls e h = subst (Judged all) e h
-
 -- of a string nothing is taken off
 pub kept_none : (ls : List Line) → map (line_kept None) ls ≡ ls
 kept_none [] = refl

@@ -10,7 +10,7 @@ use Rattle.std.proofs.lemmas.List.{take_all, drop-drop, drop_all}
 use Rattle.std.proofs.lemmas.List.Sums.{prefix_len-le-length, passes_at_first}
 use Rattle.std.proofs.lemmas.Bool.Decides.{nat_tests}
 use Rattle.sm_lex.specs.declared.escape.Escape.{Escape}
-use Rattle.sm_lex.specs.declared.part.Part.TheVariants.{Plain, Escaped, Joins, Bad as BadPart}
+use Rattle.sm_lex.specs.declared.part.Part.TheVariants.{Plain, Escaped, Bad as BadPart}
 use Rattle.sm_lex.specs.steps.LexSteps.{PartOfLine, IsBelow, below_text, LineGives, LineFails}
 use Rattle.sm_lex.specs.Lines.{line_text, put_before, is_backslash, end_of_line, behind_backslash}
 use Rattle.sm_lex.specs.Escapes.{escape}
@@ -114,9 +114,6 @@ escaped_part last (c ∷ r) behind e some h behind_is g within positive low =
 abbrev pub Gave : ℕ → List ℕ → ℕ → List ℕ → Type 0
 Gave at s i t = (below : Option (Result (List ℕ) ℕ)) → line_text at 0 s below ≡ put_before t (line_text (at + i) 0 (drop i s) below)
 
-pub gave_none : (at : ℕ) (s : List ℕ) → Gave at s 0 []
-gave_none at s below = stand_none at s below
-
 -- k bytes more, which give the text u
 gave_more : (at i k : ℕ) (s t u : List ℕ) → Gave at s i t
     → ((below : Option (Result (List ℕ) ℕ)) → line_text (at + i) 0 (drop i s) below ≡ put_before u
@@ -136,15 +133,6 @@ pub gave_escaped : (last : Bool) (at i : ℕ) (s t : List ℕ) (e : Escape) → 
     → Gave at s (i + (1 + e.count)) (t ++ encode_utf8 e.character)
 gave_escaped last at i s t e h (within, low, stand) = gave_more at i (1 + e.count) s t (encode_utf8 e.character) h
     (λ below. stand (at + i) below)
-
--- a backslash at the end of a line that another one follows
-pub gave_joins : (last : Bool) (at i : ℕ) (s t : List ℕ) → Gave at s i t → PartOfLine last (drop i s) Joins → LineGives last at s t
-gave_joins last at i s t h (not_last, joins) = λ below is_below. h below
-    ∙ ap (put_before t) (onward below (subst (λ b. IsBelow b below) not_last is_below))
-  where
-    onward : (below : Option (Result (List ℕ) ℕ)) → IsBelow false below → line_text (at + i) 0 (drop i s) below ≡ below_text below
-    onward None k = absurd k
-    onward (Some r) k = joins (at + i) r
 
 pub gave_bad : (last : Bool) (at i : ℕ) (s t : List ℕ) → Gave at s i t → PartOfLine last (drop i s) BadPart → LineFails last at s (at + i)
 gave_bad last at i s t h bad below is_below = h below ∙ ap (put_before t) (bad (at + i) below is_below)
@@ -167,9 +155,6 @@ gave_end last at i s t h past = λ below is_below. h below ∙ ap (λ r. put_bef
 -- the same of some text
 abbrev pub Reached : ℕ → List ℕ → ℕ → Type 0
 Reached at s i = (t : List ℕ) × Gave at s i t
-
-pub reached_none : (at : ℕ) (s : List ℕ) → Reached at s 0
-reached_none at s = ([], gave_none at s)
 
 pub reached_plain : (last : Bool) (at i n : ℕ) (s : List ℕ) → Reached at s i → PartOfLine last (drop i s) (Plain n) → Reached at s (i + n)
 reached_plain last at i n s (t, h) part = (t ++ take n (drop i s), gave_plain last at i n s t h part)

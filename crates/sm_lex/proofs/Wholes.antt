@@ -93,10 +93,6 @@ cut_and_shape Block start n s t u (opens, e, fine) text =
       },
     )
 
--- what the fields of a token promise, by its kind
-pub number_shape : (k : TokenKind) (start : ℕ) (t : List ℕ) → HasShape k start t → k ≡ Number → IsNumber t
-number_shape k start t h e = subst (λ j. HasShape j start t) e h
-
 pub text_shape : (k : TokenKind) (start : ℕ) (t : List ℕ) → HasShape k start t → k ≡ Text → IsStringText start t
 text_shape k start t h e = subst (λ j. HasShape j start t) e h
 

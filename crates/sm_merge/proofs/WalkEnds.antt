@@ -1,6 +1,6 @@
 -- Where a walk begins and ends, and how many steps are left.
 use Rattle.std.proofs.Common.{◌≡◌, ℕ, zero, suc, ◌+◌, ◌<◌, ◌≤◌, Bool, List, [], ◌∷◌, length, get_or}
-use Rattle.std.proofs.Common.{replicate, Some, refl, sym, ap, subst, arith}
+use Rattle.std.proofs.Common.{Some, refl, sym, ap, subst, arith}
 use Rattle.std.specs.Prelude.{◌↔◌, IsTrue}
 use Rattle.std.proofs.lemmas.Option.{none-some, same_Some, get_or_from_slice_get}
 use Rattle.sm_merge.specs.declared.walk.Status.{Status}
@@ -8,12 +8,6 @@ use Rattle.sm_merge.specs.declared.walk.Status.TheVariants.{New, Begun, Finished
 use Rattle.sm_merge.specs.steps.Links.{Links, At, OnRing, IsOrder}
 use Rattle.sm_merge.specs.steps.Walking.{IsDone, IsGrounded, IsMet, is_ring, new_steps, steps_ahead}
 use Rattle.sm_merge.proofs.Ats.{at_there, at_within}
-
--- no number was met
-of_new : (n k : ℕ) (s : Status) → At (replicate n New) k s → New ≡ s
-of_new zero k s h = absurd (none-some s h)
-of_new (suc n) zero s h = same_Some New s h
-of_new (suc n) (suc k) s h = of_new n k s h
 
 -- a number that was met is finished, where the row has ended
 pub met_done : (links : Links) (status : List Status) (row targets order : List ℕ) → IsGrounded links status row targets order

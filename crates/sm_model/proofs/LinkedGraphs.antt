@@ -5,7 +5,7 @@ use Rattle.std.specs.Prelude.{◌↔◌, slice_get}
 use Rattle.std.specs.FinMap as fin
 use Rattle.std.proofs.lemmas.Bool.{cases_lt}
 use Rattle.std.proofs.lemmas.Option.{same_Some}
-use Rattle.sm_tree.specs.Node.{Node, Members, object, members_of}
+use Rattle.sm_tree.specs.Node.{Node, object, members_of}
 use Rattle.sm_model.specs.Graphs.{Entry, shape_entry, member_entry, ShapeEntry, MemberEntry, GraphMaps}
 use Rattle.sm_model.specs.GraphView.{At, HasKind, HasBodyNode, IsMemberEntry, IsShapeNumber, Stands, is_member_entry, entries_of, ids}
 use Rattle.sm_model.specs.GraphView.{maps_of, target_of}
@@ -20,7 +20,7 @@ use Rattle.sm_model.specs.declared.relation.Relation.TheVariants.{Identifier, Pr
 use Rattle.sm_model.specs.steps.Linking.{Adds, BodyLinks, BodySays, EntryLinks, FieldsLinks, LinksBelow, RunsTo, TargetLinks, TargetSays}
 use Rattle.sm_model.proofs.GraphFacts.{entry_under, id_at}
 use Rattle.sm_model.proofs.LinkNumbers.{at_opened, at_from, stands_at, within}
-use Rattle.sm_model.proofs.LinkFacts.{SaysInPairs, fields_run, runs_fields, pair_none, runs_to_none, runs_to_one}
+use Rattle.sm_model.proofs.LinkFacts.{SaysInPairs, fields_run, runs_fields, runs_to_none, runs_to_one}
 
 -- a member by what stands at its number
 pub member_at : (g : Graph) (number : ℕ) → At g number (λ id e. is_member_entry e ≡ true)
@@ -133,20 +133,6 @@ body_links g number kind ps k b l =
           (field_relations x) ≡ Some l.relation) k h.3,
       h.4,
     )
-
-pub body_none : (g : Graph) (number : ℕ) (n : Node) → At g number (λ id e. HasBodyNode n e)
-    → ((ms : Members) → n ≡ object ms → ⊥) → (l : Link) → BodyLinks g number l → ⊥
-body_none g number n b none l h =
-    let o = at_opened g number (λ i e. BodySays g l e) h.1 in
-    let p = at_opened g number (λ id e. HasBodyNode n e) b in
-    by o.entry o.is (subst (λ (x : List ℕ × Entry). HasBodyNode n x.1) (same_Some (p.id, p.entry) (o.id, o.entry) (sym p.there
-    ∙ o.there)) p.is)
-  where
-    by : (e : Entry) → BodySays g l e → HasBodyNode n e → ⊥
-    by (member_entry m) says has = says
-    by (shape_entry s) says has =
-        let q = at_opened g l.to (λ i e. SaysInBody l.relation s i) says in
-        pair_none s.properties (λ ms is. none ms (sym has ∙ is)) q.is.0 q.is.1 q.is.2
 
 -- the relations but that to the shape of a member
 either_back : (r : Relation) → (r ≡ Container) ⊎ (r ≡ Container → ⊥)

@@ -1,6 +1,5 @@
 // The names of all shapes of a graph, wherever they stand, and what stands first under the name of each, where that is another one.
-ghost use Rattle.std.specs.Prelude.{◌≡◌, ℕ, IfOk, None, Option, length, replicate, true};
-ghost use Rattle.sm_model.specs.GraphView.{entries_of};
+ghost use Rattle.std.specs.Prelude.{◌≡◌, ℕ, IfOk, None, Option, replicate, true};
 ghost use Rattle.sm_passes.specs.Firsts.{number_in};
 ghost use Rattle.sm_name_rules.specs.steps.NameTwins.{AreEarlierIn, AreOwnRows, earlier_in, earlier_of};
 

@@ -1,20 +1,17 @@
 -- A walk over numbers from a service finds its closure.
-use Rattle.std.proofs.Common.{◌≡◌, ◌<◌, inl, inr, ℕ, Bool, false, List, [], ◌∷◌, length, replicate, refl, sym, ap, ◌∙◌, subst}
+use Rattle.std.proofs.Common.{◌≡◌, ◌<◌, inl, inr, ℕ, Bool, false, List, [], ◌∷◌, length, refl, sym, ◌∙◌, subst}
 use Rattle.std.specs.Prelude.{◌↔◌}
 use Rattle.std.specs.List.{Contains}
 use Rattle.sm_model.specs.Graphs.{GraphMaps}
-use Rattle.sm_model.specs.GraphView.{IsShapeNumber, entries_of, maps_of}
-use Rattle.sm_model.specs.Reaching.{AreFound, AreLedTo, Finds, LeadsOn, id_of_number}
+use Rattle.sm_model.specs.GraphView.{IsShapeNumber, maps_of}
+use Rattle.sm_model.specs.Reaching.{AreLedTo, Finds, LeadsOn, id_of_number}
 use Rattle.sm_model.specs.Relations.{IsNeighbor, Reaches, WalksBy}
 use Rattle.sm_model.specs.declared.graph.Graph.{Graph}
 use Rattle.sm_model.proofs.NumberedIds.{number_of, related_in}
 use Rattle.sm_model.proofs.OneRising.{contains_either, contains_none}
-use Rattle.sm_model.proofs.Worklist.{found_none}
 use Rattle.sm_select.specs.Neighbors.{HasStep, StayBelow}
 use Rattle.sm_select.specs.Ways.{AreSteps}
 use Rattle.sm_passes.specs.Closures.{AreInside, AreInsideOf}
-use Rattle.sm_passes.specs.steps.Groups.{IsClear}
-use Rattle.sm_passes.specs.declared.closures.Closure.{Closure}
 
 module _ (g : Graph) (rows : List (List ℕ)) (are : AreSteps g false rows) where
   abbrev m : GraphMaps
@@ -72,9 +69,3 @@ module _ (g : Graph) (rows : List (List ℕ)) (are : AreSteps g false rows) wher
         ],
         λ step. (finds.joins a).1 (inr step),
       )
-
--- nothing is found in clear room
-pub clear_found : (g : Graph) (c : Closure) → IsClear g c → AreFound c.marks.items c.found.items
-clear_found g c clear =
-    subst (λ ms. AreFound ms c.found.items) (sym clear.marks)
-    (subst (AreFound (replicate (length (entries_of g)) false)) (sym clear.found) (found_none (length (entries_of g))))

@@ -1,7 +1,6 @@
 // Target.Kind: what references name is of a type that may stand there.
-ghost use Rattle.std.specs.Prelude.{◌≡◌, ℕ, OnOk, Some};
+ghost use Rattle.std.specs.Prelude.{◌≡◌, OnOk, Some};
 ghost use Rattle.std.specs.FinMap as fin;
-ghost use Rattle.std.specs.Str.{bytes_eq};
 ghost use Rattle.sm_model.specs.GraphView.{AreShapeNumbers, IsShapeNumber, maps_of};
 ghost use Rattle.sm_model.specs.Reaching.{id_of_number};
 ghost use Rattle.sm_compile.specs.Looked.{targets_unit};
@@ -10,7 +9,6 @@ ghost use Rattle.sm_rules.specs.Targets.{RefersToOther, TargetsOther};
 ghost use Rattle.sm_rules.specs.RuleEvents.{IsEventIn, IsEventOf, Puts};
 ghost use Rattle.sm_rules.specs.declared.rule.Rule.TheVariants.{TargetKind};
 ghost use Rattle.sm_passes.specs.Putting.{ToldOf};
-ghost use Rattle.sm_reference_rules.specs.steps.References.{ToldByBodies};
 ghost use Rattle.sm_reference_rules.specs.steps.Targets as tests;
 ghost use Rattle.sm_reference_rules.specs.steps.Targets.{ToldMember, ToldReferred};
 

@@ -7,7 +7,6 @@ ghost use Rattle.sm_model.specs.EventView.{EventTold};
 ghost use Rattle.sm_model.specs.GraphView.{IsShapeNumber, maps_of};
 ghost use Rattle.sm_model.specs.Graphs.{GraphMaps};
 ghost use Rattle.sm_model.specs.Reaching.{id_of_number};
-ghost use Rattle.sm_model.specs.Relations.{field_relations, relation_under};
 ghost use Rattle.sm_rules.specs.RuleEvents.{Puts};
 ghost use Rattle.sm_passes.specs.Putting.{ToldOf};
 ghost use Rattle.sm_reference_rules.specs.steps.References.{ToldByBodies, ToldField, ToldInBody, ToldIn, ToldOwnBody, ToldPair, ToldText};

@@ -1,14 +1,12 @@
 -- Marks that links add, one link after the other.
 use Rattle.std.proofs.Common.{◌≡◌, ◌⊎◌, inl, inr, ℕ, ◌<◌, Bool, true, false, List, [], ◌∷◌, length, get_or, sym, ap, ◌∙◌, subst}
 use Rattle.std.specs.Prelude.{◌↔◌, replicate, set}
-use Rattle.std.specs.List.{Contains}
 use Rattle.std.proofs.lemmas.List.{get_or-set_other, get_or-set_same}
 use Rattle.sm_model.specs.declared.link.Link.{Link}
 use Rattle.sm_model.specs.declared.relation.Relation.{Relation}
 use Rattle.sm_model.specs.Reaching.{IsMarked}
 use Rattle.sm_model.proofs.Worklist.{none_marked}
-use Rattle.sm_select.specs.Followed.{AreFollowed, Follows, end_of, start_of}
-use Rattle.sm_select.specs.Neighbors.{IsBelow}
+use Rattle.sm_select.specs.Followed.{AreFollowed, Follows}
 use Rattle.sm_select.specs.steps.Reaching.{AnyOf}
 use Rattle.sm_select.proofs.StepLists.{any_in, in_any, same_or_not}
 
@@ -19,25 +17,6 @@ marked_more marks e lt b = elim (same_or_not b e) [
       let same : get_or (set marks e true) b false ≡ get_or marks b false = get_or-set_other marks e b true false other in
       (λ h. inl (sym same ∙ h), λ h. elim h [ inl old ↦ same ∙ old | inr is ↦ absurd (other (sym is)) ])
 ]
-
-pub end_marked : (relations : List Relation) (back : Bool) (starts marks : List Bool) (l : Link) → end_of back l < length marks
-    → Contains relations l.relation × IsMarked starts (start_of back l)
-    → (b : ℕ) → IsMarked (set marks (end_of back l) true) b ↔ (IsMarked marks b ⊎ Follows relations back starts l b)
-end_marked relations back starts marks l lt leads b =
-    let more = marked_more marks (end_of back l) lt b in (
-      λ h. elim (more.0 h) [ inl old ↦ inl old | inr is ↦ inr (leads.0, leads.1, is) ],
-      λ h. more.1 (elim h [ inl old ↦ inl old | inr f ↦ inr f.2 ]),
-    )
-
-pub end_not_marked : (relations : List Relation) (back : Bool) (starts marks : List Bool) (l : Link)
-    → (Contains relations l.relation × IsMarked starts (start_of back l) → ⊥)
-    → (b : ℕ) → IsMarked marks b ↔ (IsMarked marks b ⊎ Follows relations back starts l b)
-end_not_marked relations back starts marks l none b =
-    (λ h. inl h, λ h. elim h [ inl old ↦ old | inr f ↦ absurd (none (f.0, f.1)) ])
-
-pub ends_within : (back : Bool) (l : Link) (n : ℕ) → IsBelow n l → (start_of back l < n) × (end_of back l < n)
-ends_within false l n below = (below.0, below.1)
-ends_within true l n below = (below.1, below.0)
 
 pub follows_more : (relations : List Relation) (back : Bool) (starts marks now : List Bool) (l : Link) (rest all : List Link)
     → ((b : ℕ) → IsMarked now b ↔ (IsMarked marks b ⊎ Follows relations back starts l b))

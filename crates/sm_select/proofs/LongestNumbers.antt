@@ -154,10 +154,6 @@ number_here s v c n t e =
 pub number_within : (s v c : List ℕ) → TokenThen (numeral v) s c → length s ≡ length v + length c
 number_within s v c t = ap length (number_cut s v c t) ∙ length-append v c
 
--- nothing is read
-pub longest_none : (s : List ℕ) → IsLongestTo s 0 0
-longest_none s = record { within = omega arith; found = inl refl; longest = λ v c t short. short }
-
 -- one byte more
 pub longest_more : (s : List ℕ) (at len new : ℕ) (phase : Phase) → NumberLeads Start (take (at + 1) s) phase → IsLongestTo s at len
     → (EndsHere phase (run_open false (take (at + 1) s)) (drop (at + 1) s) × (new ≡ at + 1))

@@ -89,9 +89,6 @@ set_more old more now next n so adds k = (
     here : n ≡ k → k < n + 1
     here e = omega (arith, e)
 
-pub set_none : (old more : List Bool) (k : ℕ) → IsMarked old k ↔ (IsMarked old k ⊎ ((k < 0) × IsMarked more k))
-set_none old more k = (λ h. inl h, λ h. elim h [ inl o ↦ o | inr m ↦ absurd (omega (arith, m.0)) ])
-
 pub set_all : (old more now : List Bool) (n : ℕ) → length more ≤ n
     → ((k : ℕ) → IsMarked now k ↔ (IsMarked old k ⊎ ((k < n) × IsMarked more k))) → (k : ℕ)
     → IsMarked now k ↔ (IsMarked old k ⊎ IsMarked more k)

@@ -1,28 +1,19 @@
 -- The reader of attributes: what stands where a path is wanted, behind a path, and behind a value leads on.
-use Rattle.std.proofs.Common.{◌≡◌, ◌⊎◌, inl, inr, ℕ, List, length, drop, Some, None, refl, codes}
+use Rattle.std.proofs.Common.{◌≡◌, ◌⊎◌, inl, inr, ℕ, List, length, drop, None, refl, codes}
 use Rattle.sm_select.specs.Selectors.{Step, Attribute, id_of}
 use Rattle.sm_select.specs.declared.selector.SelectorOp.{SelectorOp}
 use Rattle.sm_select.specs.declared.tokens.Sign.{Sign}
 use Rattle.sm_select.specs.declared.tokens.Sign.TheVariants.{ClosePath, Comma, Bar, IdNamespace, IdName, IdMember, TraitBar, Op}
 use Rattle.sm_select.specs.Tokens.{EndsWhite, SkipsWhite}
 use Rattle.sm_select.specs.declared.refusal.SelectorRefusal.{SelectorRefusal}
-use Rattle.sm_select.specs.steps.Signs.{sign_text, first_sign, path_signs, behind_path_signs, behind_value_signs}
+use Rattle.sm_select.specs.steps.Signs.{first_sign, path_signs, behind_value_signs}
 use Rattle.sm_select.specs.steps.Places.{Piece, sign, id_word, fold_word, Frame, Place, path_wanted, behind_path}
 use Rattle.sm_select.specs.steps.Places.{behind_value, behind_fold, Moves, at_id, at_namespace, at_name, at_member, at_trait, bar, had}
 use Rattle.sm_select.specs.steps.Places.{stands_to, another_value, folds, compared}
 use Rattle.sm_select.specs.steps.Standing.{Passes}
 use Rattle.sm_select.specs.steps.Reader.{IsRunAt, IsPlaced, Refuses}
-use Rattle.sm_select.proofs.ReadWords.{Named, NoSign, word_passes, sign_passes, first_stands, none_no_sign, named_stops, signs_stop}
+use Rattle.sm_select.proofs.ReadWords.{Named, NoSign, word_passes, none_no_sign, named_stops, signs_stop}
 use Rattle.sm_select.proofs.ReadNames.{flat_refused}
-
--- a sign of a path: the place behind it
-pub path_read : (ss : List Step) (fs : List Frame) (a : Sign) (q : Place) (s behind : List ℕ) → Moves (path_wanted ss fs) (sign a) q
-    → first_sign path_signs s ≡ Some a
-    → SkipsWhite (drop (length (sign_text a)) s) behind
-    → EndsWhite behind
-    → Passes (path_wanted ss fs) s q behind
-path_read ss fs a q s behind m e gone dark =
-    sign_passes (path_wanted ss fs) q a s behind (first_stands path_signs s a e) m gone dark
 
 pub id_read : (ss : List Step) (fs : List Frame) (s w behind : List ℕ) → first_sign path_signs s ≡ None → IsRunAt s w → w ≡ codes "id"
     → SkipsWhite (drop (length w) s) behind
@@ -60,16 +51,6 @@ path_refused len ss fs s w e none at other dark placed =
     n))
     dark placed
 
--- behind a path
-pub behind_path_read : (ss : List Step) (fs : List Frame) (path : Attribute) (a : Sign) (q : Place) (s behind : List ℕ)
-    → Moves (behind_path ss fs path) (sign a) q
-    → first_sign behind_path_signs s ≡ Some a
-    → SkipsWhite (drop (length (sign_text a)) s) behind
-    → EndsWhite behind
-    → Passes (behind_path ss fs path) s q behind
-behind_path_read ss fs path a q s behind m e gone dark =
-    sign_passes (behind_path ss fs path) q a s behind (first_stands behind_path_signs s a e) m gone dark
-
 behind_path_kinds : {ss : List Step} {fs : List Frame} {path : Attribute} {x : Piece} {q : Place} → Moves (behind_path ss fs path) x q
     → (a : Sign) × (x ≡ sign a)
 behind_path_kinds bar = (Bar, refl)
@@ -84,17 +65,6 @@ pub behind_path_refused : (len : ℕ) (ss : List Step) (fs : List Frame) (path :
 behind_path_refused len ss fs path s e none dark placed =
     flat_refused len (behind_path ss fs path) s e (λ x. x) (λ steps x. x)
     (signs_stop (behind_path ss fs path) s none (λ x q m. behind_path_kinds m)) dark placed
-
--- behind a value
-pub behind_value_read : (ss : List Step) (fs : List Frame) (path : Attribute) (op : SelectorOp) (vs : List (List ℕ)) (a : Sign) (q : Place)
-    (s behind : List ℕ)
-    → Moves (behind_value ss fs path op vs) (sign a) q
-    → first_sign behind_value_signs s ≡ Some a
-    → SkipsWhite (drop (length (sign_text a)) s) behind
-    → EndsWhite behind
-    → Passes (behind_value ss fs path op vs) s q behind
-behind_value_read ss fs path op vs a q s behind m e gone dark =
-    sign_passes (behind_value ss fs path op vs) q a s behind (first_stands behind_value_signs s a e) m gone dark
 
 pub fold_read : (ss : List Step) (fs : List Frame) (path : Attribute) (op : SelectorOp) (vs : List (List ℕ)) (s w behind : List ℕ)
     → first_sign behind_value_signs s ≡ None

@@ -4,7 +4,7 @@ use Rattle.std.proofs.Common.{Option, Some, None, refl, sym, ap}
 use Rattle.std.proofs.Common.{◌∙◌, subst, codes, arith, Result, Ok, Err}
 use Rattle.sm_model.specs.declared.kind.Kind.{Kind}
 use Rattle.sm_select.specs.Grammar.{type_word}
-use Rattle.sm_select.specs.Selectors.{Step, Steps, of_kind, steps_of}
+use Rattle.sm_select.specs.Selectors.{Step, of_kind, steps_of}
 use Rattle.sm_select.specs.View.{step_view}
 use Rattle.sm_select.specs.declared.selector.SelectorStep.TheVariants.{Any, Forward, Back, Walk}
 use Rattle.sm_select.specs.declared.tokens.SelectorForm.TheVariants.{Is, Not, Test}
@@ -296,11 +296,6 @@ only_whole [] fs h = absurd h
 only_whole (s ∷ ss) [] h = refl
 only_whole (s ∷ ss) (f ∷ fs) h = absurd h
 
-pub whole_only : (ss : List Step) (fs : List Frame) (steps : Steps) → IsWhole (stepping ss fs) steps → IsOnlySelector (stepping ss fs)
-whole_only [] fs steps h = h
-whole_only (s ∷ ss) [] steps h = tt
-whole_only (s ∷ ss) (f ∷ fs) steps h = h
-
 suc_zero : (n : ℕ) → (suc n == 0) ≡ false
 suc_zero n = grind (arith, nat_tests)
 
@@ -308,6 +303,3 @@ suc_zero n = grind (arith, nat_tests)
 pub empty_text : (t : List ℕ) (b : Bool) → b ≡ (length t == 0) → b ≡ true → t ≡ []
 empty_text [] b e f = refl
 empty_text (c ∷ t) b e f = absurd (let g : true ≡ false = sym f ∙ e ∙ suc_zero (length t) in cc)
-
-pub not_empty_text : (t : List ℕ) (b : Bool) → b ≡ (length t == 0) → b ≡ false → t ≡ [] → ⊥
-not_empty_text t b e f g = absurd (let h : true ≡ false = sym (ap (λ x. length x == 0) g) ∙ sym e ∙ f in cc)

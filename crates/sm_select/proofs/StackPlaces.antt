@@ -25,10 +25,6 @@ pub frames_pushed : (os : List OpenForm) (o : OpenForm) (fs : List Frame) → fr
 frames_pushed [] o fs = refl
 frames_pushed (x ∷ os) o fs = frames_pushed os o (frame_of x ∷ fs)
 
-pub steps_pushed : (ss : List SelectorStep) (s : SelectorStep) → step_views (ss ++ s ∷ []) ≡ step_views ss ++ step_view s ∷ []
-steps_pushed [] s = refl
-steps_pushed (x ∷ ss) s = ap (λ v. step_view x ∷ v) (steps_pushed ss s)
-
 pub selectors_pushed : (ss : List Selector) (s : Selector) → selector_views (ss ++ s ∷ []) ≡ selector_views ss ++ selector_view s ∷ []
 selectors_pushed [] s = refl
 selectors_pushed (x ∷ ss) s = ap (λ v. selector_view x ∷ v) (selectors_pushed ss s)
@@ -47,9 +43,6 @@ abbrev IsListedFirst : List Frame → Type 0
 IsListedFirst [] = ⊥
 IsListedFirst (frame form outer done ∷ fs) = IsListed form
 
-closes_parts : {xs : List Step} {fs : List Frame} {n : Place} → Moves (stepping xs fs) (sign Close) n → IsSome xs × IsSome fs
-closes_parts closes = (tt, tt)
-
 another_parts : {xs : List Step} {fs : List Frame} {n : Place} → Moves (stepping xs fs) (sign Comma) n → IsSome xs × IsListedFirst fs
 another_parts (another several) = (tt, several)
 
@@ -57,21 +50,12 @@ none_empty : {A : Type 0} (xs : List A) → xs ≡ [] → IsSome xs → ⊥
 none_empty [] e h = h
 none_empty (x ∷ xs) e h = cc
 
-pub no_close_first : (xs : List Step) (fs : List Frame) (n : Place) → xs ≡ [] → Moves (stepping xs fs) (sign Close) n → ⊥
-no_close_first xs fs n e m = none_empty xs e (closes_parts m).0
-
-pub no_close_outside : (xs : List Step) (fs : List Frame) (n : Place) → fs ≡ [] → Moves (stepping xs fs) (sign Close) n → ⊥
-no_close_outside xs fs n e m = none_empty fs e (closes_parts m).1
-
 pub no_comma_first : (xs : List Step) (fs : List Frame) (n : Place) → xs ≡ [] → Moves (stepping xs fs) (sign Comma) n → ⊥
 no_comma_first xs fs n e m = none_empty xs e (another_parts m).0
 
 none_listed : (fs : List Frame) → fs ≡ [] → IsListedFirst fs → ⊥
 none_listed [] e h = h
 none_listed (f ∷ fs) e h = cc
-
-pub no_comma_outside : (xs : List Step) (fs : List Frame) (n : Place) → fs ≡ [] → Moves (stepping xs fs) (sign Comma) n → ⊥
-no_comma_outside xs fs n e m = none_listed fs e (another_parts m).1
 
 pub no_comma_in_not : (xs outer : List Step) (all fs : List Frame) (n : Place) → all ≡ frame Not outer [] ∷ fs
     → Moves (stepping xs all) (sign Comma) n
@@ -140,10 +124,6 @@ not_only : (ss : List Step) (fs : List Frame) → (fs ≡ [] → ⊥) → IsOnly
 not_only [] fs some h = h
 not_only (s ∷ ss) [] some h = some refl
 not_only (s ∷ ss) (f ∷ fs) some h = h
-
-pub only_first : (ss : List SelectorStep) (fs : List Frame) → ss ≡ [] → IsOnlySelector (stepping (step_views ss) fs) → ⊥
-only_first [] fs e h = h
-only_first (s ∷ ss) fs e h = absurd cc
 
 suc_zero : (n : ℕ) → (suc n == 0) ≡ false
 suc_zero n = grind (arith, nat_tests)

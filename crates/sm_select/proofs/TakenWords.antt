@@ -11,7 +11,7 @@ use Rattle.std.proofs.lemmas.Str.{IsCharBoundary-at_seam}
 use Rattle.sm_ids.specs.Identifier.{IsIdentifier}
 use Rattle.sm_ids.specs.IdText.{IsIdText, member_text}
 use Rattle.sm_ids.specs.steps.Ahead.{EndsRun}
-use Rattle.sm_ids.proofs.Cutting.{clash, one_cut, tails}
+use Rattle.sm_ids.proofs.Cutting.{clash, one_cut}
 use Rattle.sm_model.specs.PreludeShapes.{api_id}
 use Rattle.sm_select.specs.Tokens.{Token, word, BeginsOther, GoesOnWithRun, TokenThen, begins_run, is_run_byte}
 use Rattle.sm_select.specs.SelectorText.{IsRun}
@@ -21,7 +21,7 @@ use Rattle.sm_select.specs.steps.Taking.{IsRunId}
 use Rattle.sm_select.specs.declared.parser_taken.Taken.{Taken}
 use Rattle.sm_select.specs.Grammar.{MeansTrait}
 use Rattle.sm_select.proofs.WordBytes.{WordThen, WordShape, word_then, id_shape, identifier_run, member_run_ends}
-use Rattle.sm_select.proofs.WordBytes.{IsRunText, identifier_text, run_stops}
+use Rattle.sm_select.proofs.WordBytes.{run_stops}
 use Rattle.sm_select.proofs.LongestNumbers.{take_joined}
 use Rattle.sm_select.proofs.SignTexts.{drop_joined}
 use Rattle.sm_select.proofs.ReadWords.{identifier_at, no_bracket, run_all, run_token}
@@ -78,9 +78,6 @@ id_not_empty w is e = by_shape (id_shape w is)
     by_shape : WordShape w → ⊥
     by_shape h = let f : [] ≡ h.of_run.first ∷ (h.of_run.more ++ member_text h.member) =
         sym e ∙ h.is ∙ ap (λ x. x ++ member_text h.member) h.of_run.is in absurd cc
-
-pub no_empty_id : IsIdText [] → ⊥
-no_empty_id is = id_not_empty [] is refl
 
 -- what an id cuts off is a token
 id_token : (w s c : List ℕ) → IsIdText w → s ≡ w ++ c → (GoesOnWithRun c → ⊥) → TokenThen (word w) s c
@@ -281,18 +278,6 @@ pub longer_found : (s run more m : List ℕ) → IsRunAt s run → drop (length 
     → (x : List ℕ) × (t ≡ run ++ 36 ∷ x) × (s ≡ t ++ b) × IsMemberRun s run x b
 longer_found s run more m at rest there some t b e f =
     let r = some_run more m there some in found_of s run more m r.0 at rest r.1 t b e f
-
--- behind a `$` no run begins, or no `$` stands
-pub no_longer_run : (s run more : List ℕ) → drop (length run) s ≡ 36 ∷ more → (m : List ℕ) → m ≡ [] → IsRunAt more m
-    → IsLongerWord s run None
-no_longer_run s run more rest m empty (inr (behind, r)) x c e is =
-    let f : [] ≡ r.first ∷ r.more = sym empty ∙ r.is in absurd cc
-no_longer_run s run more rest m empty (inl (none, f)) x c e is = by_text (identifier_text x is)
-  where
-    by_text : IsRunText x → ⊥
-    by_text t =
-        let same : more ≡ x ++ c = tails 36 36 more (x ++ c) (sym rest ∙ e) in
-        clash (begins_run t.first) t.begins (subst BeginsNoRun (same ∙ ap (λ y. y ++ c) t.is) none)
 
 pub no_dollar_behind : (s run : List ℕ) → ((more : List ℕ) → drop (length run) s ≢ 36 ∷ more) → IsLongerWord s run None
 no_dollar_behind s run none x c e is = none (x ++ c) e

@@ -1,5 +1,5 @@
 -- How texts stand to each other, from what std's tests and a search say of them.
-use Rattle.std.proofs.Common.{◌≡◌, inl, inr, ℕ, ◌+◌, ◌-◌, Bool, true, List, ◌∷◌, ◌++◌, length, take, drop, Some, None, Option, refl, sym}
+use Rattle.std.proofs.Common.{◌≡◌, inl, ℕ, ◌+◌, ◌-◌, Bool, true, List, ◌∷◌, ◌++◌, length, take, drop, Some, None, Option, refl, sym}
 use Rattle.std.proofs.Common.{ap, ◌∙◌, arith, append_assoc, length-append, take-append-drop, eqb-true, eq-eqb}
 use Rattle.std.specs.Prelude.{◌↔◌, is_some, nat_eq}
 use Rattle.std.specs.Bool.{Decides}
@@ -56,7 +56,3 @@ within_told text value (Some k) found = (λ h. occurs_within text value k found.
 pub stands_first : (op : SelectorOp) (text value : List ℕ) (values : List (List ℕ)) → StandsTo op text value
     → StandsToOne op text (value ∷ values)
 stands_first op text value values h = inl h
-
-pub stands_later : (op : SelectorOp) (text value : List ℕ) (values : List (List ℕ)) → (StandsTo op text value → ⊥)
-    → StandsToOne op text (value ∷ values) ↔ StandsToOne op text values
-stands_later op text value values never = (λ h. elim h [ inl here ↦ absurd (never here) | inr later ↦ later ], λ h. inr h)

@@ -1,5 +1,5 @@
 -- The first constraint broken of two lists; and what is judged of lists and maps.
-use Rattle.std.proofs.Common.{◌≡◌, ℕ, ℤ, suc, Bool, false, ◌&&◌, ◌||◌, List, [], ◌∷◌, ◌++◌, length, append_assoc, refl, sym, ap, ◌∙◌}
+use Rattle.std.proofs.Common.{◌≡◌, ℕ, ℤ, suc, Bool, false, ◌&&◌, ◌||◌, List, [], ◌∷◌, length, refl, sym, ap, ◌∙◌}
 use Rattle.std.specs.Prelude.{Option, Some, None, is_some}
 use Rattle.sm_shapes.specs.Values.{Val, vals_of, entries_of, each_val, keys_of}
 use Rattle.sm_shapes.specs.Broken.{first_broken, unless, text_broken, is_at_least, is_at_most}
@@ -9,17 +9,6 @@ use Rattle.sm_shapes.specs.declared.kinds.ShapeKind.{ShapeKind}
 use Rattle.sm_shapes.specs.declared.kinds.ShapeKind.TheVariants.{Enum}
 use Rattle.sm_shapes.specs.declared.fault.FaultKind.{FaultKind}
 use Rattle.sm_shapes.specs.declared.fault.FaultKind.TheVariants as fault
-
-pub first_some : (xs ys : List FaultKind) (k : FaultKind) → first_broken xs ≡ Some k → first_broken (xs ++ ys) ≡ Some k
-first_some [] ys k h = absurd cc
-first_some (x ∷ xs) ys k h = h
-
-pub first_none : (xs ys : List FaultKind) → first_broken xs ≡ None → first_broken (xs ++ ys) ≡ first_broken ys
-first_none [] ys h = refl
-first_none (x ∷ xs) ys h = absurd cc
-
-pub first_later : (xs ys zs : List FaultKind) → first_broken xs ≡ None → first_broken ((xs ++ ys) ++ zs) ≡ first_broken (ys ++ zs)
-first_later xs ys zs h = ap first_broken (append_assoc xs ys zs) ∙ first_none xs (ys ++ zs) h
 
 pub each_of : (vs : List Val) → length (each_val (vals_of vs)) ≡ length vs
 each_of [] = refl

@@ -1,7 +1,6 @@
 // Values judged by constraints: the first that a value breaks.
 ghost use Rattle.std.specs.Prelude.{◌≡◌, ◌++◌, ◌||◌, is_some, length, pos, IfOk};
-ghost use Rattle.std.specs.List.{list_any};
-ghost use Rattle.std.specs.Str.{bytes_eq, chars};
+ghost use Rattle.std.specs.Str.{chars};
 ghost use Rattle.sm_shapes.specs.Broken.{is_at_least, is_at_most, first_broken, broken, length_broken, range_broken, pattern_broken};
 ghost use Rattle.sm_shapes.specs.Broken.{text_broken, number_broken};
 ghost use Rattle.sm_shapes.specs.ConstraintView.{constraint_data};

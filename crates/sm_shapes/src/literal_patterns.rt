@@ -2,7 +2,7 @@
 // serves tests, which say in which calls it refuses.
 ghost use Rattle.std.specs.Prelude.{◌≡◌, ◌<◌, ◌≤◌, ◌-◌, ◌^◌, ◌↔◌, [], None, length, IfOk, OnOk, IsErrOf, IsTrue, Ok, true, false};
 ghost use Rattle.sm_shapes.specs.Patterns.{Adds, RecordsRefusal, CountsRefusal, pattern_text};
-ghost use Rattle.sm_shapes.specs.Literals.{IsPart, is_part, AddCalls, after_add, refuses};
+ghost use Rattle.sm_shapes.specs.Literals.{IsPart, is_part, after_add, refuses};
 
 use crate::{PatternRefusal, Patterns};
 use sm_tree::{NoMemory, Text};

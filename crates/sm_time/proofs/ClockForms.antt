@@ -32,14 +32,6 @@ no_clock text prefix e none (clock_form letter c ds z) h = none letter c h.0.0 h
 no_clock text prefix e none (gmt_form c) h = h.0
 no_clock text prefix e none (seconds_form n int ds) h = h.0
 
--- nor where what follows the fraction is no zone
-pub no_zone : (text rest digits zone : List ℕ) → rest ≡ drop 19 text → SplitsFraction rest digits zone → ZoneOffset zone None
-    → (form : Form) → Shows DateTime text form → ⊥
-no_zone text rest digits zone e split none (clock_form letter c ds z) h =
-    none z h.0.3 (sym (split.only ds (zone_text z) h.0.2 (zone_ends z) (e ∙ behind_clock text letter c ds z h)).1)
-no_zone text rest digits zone e split none (gmt_form c) h = h.0
-no_zone text rest digits zone e split none (seconds_form n int ds) h = h.0
-
 -- a clock, a fraction and a zone make a form
 pub shows_clock : (text prefix rest digits zone : List ℕ) (seconds : ℕ) (ms : ℤ) → prefix ≡ take 19 text → rest ≡ drop 19 text
     → ClockSeconds prefix (Some seconds) → SplitsFraction rest digits zone → ZoneOffset zone (Some ms) → ShowsClock text seconds digits ms

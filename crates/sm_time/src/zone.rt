@@ -1,5 +1,5 @@
 // The zone at the end of a date-time (RFC 3339, section 5.6).
-ghost use Rattle.std.specs.Prelude.{[], ◌∷◌, ◌≤◌, IfSome};
+ghost use Rattle.std.specs.Prelude.{[], ◌≤◌, IfSome};
 ghost use Rattle.sm_time.specs.steps.Parts.{TwoDigits, ClockOffset, ZoneOffset, IsOffset};
 
 /// The milliseconds by which a zone's clock is ahead of UTC, or `None` where the text is no zone.

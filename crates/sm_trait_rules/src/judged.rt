@@ -1,6 +1,5 @@
 // Traits of shapes and of their members, judged by the table.
-ghost use Rattle.std.specs.Prelude.{◌≡◌, ◌⊎◌, ℕ, Bool, List, OnOk, map};
-ghost use Rattle.std.specs.FinMap as fin;
+ghost use Rattle.std.specs.Prelude.{◌≡◌, ℕ, Bool, List, OnOk};
 ghost use Rattle.sm_tree.specs.Node.{Node};
 ghost use Rattle.sm_tree.specs.View.{node_of};
 ghost use Rattle.sm_model.specs.GraphView.{AreShapeNumbers, IsShapeNumber, maps_of};

@@ -5,7 +5,7 @@ use Rattle.sm_tree.specs.Events.{NodeEvent, start_list, start_object, end_list, 
 use Rattle.sm_tree.specs.Events.{pairs_events}
 use Rattle.sm_tree.specs.Building.{Inner, in_list, in_object, in_pair, Around, around_list, around_object, Building, nothing, whole}
 use Rattle.sm_tree.specs.Building.{within, tagged, tag_events, each_events, each_pair_events, inner_events, around_events, outer_events}
-use Rattle.sm_tree.specs.Building.{so_far, inner_kind, kinds, inner_awaits, awaits_value, is_tagged, inner_awaits_content, awaits_content}
+use Rattle.sm_tree.specs.Building.{so_far, kinds, inner_awaits, awaits_value, is_tagged, inner_awaits_content, awaits_content}
 use Rattle.sm_tree.specs.Building.{IsIn}
 use Rattle.sm_tree.specs.steps.BuilderSteps.{with_tree, with_tag, ended, back_inside, after_value, after_tag, after_end}
 use Rattle.sm_tree.specs.declared.build.OpenKind.{OpenKind}
@@ -101,16 +101,6 @@ with_tag_events (in_object ms) t awaits = absurd cc
 with_tag_events (in_pair ms k ts) t awaits = ap (λ es. start_object None ∷ es)
     (ap (λ es. each_pair_events ms ++ key_event k ∷ es) (tag_events_more ts t)
     ∙ sym (append_assoc (each_pair_events ms) (key_event k ∷ tag_events ts) (tag_event t ∷ [])))
-
-pub with_tag_kind : (i : Inner) (t : ℕ) → inner_kind (with_tag t i) ≡ inner_kind i
-with_tag_kind (in_list ns ts) t = refl
-with_tag_kind (in_object ms) t = refl
-with_tag_kind (in_pair ms k ts) t = refl
-
-pub with_tag_awaits : (i : Inner) (t : ℕ) → inner_awaits (with_tag t i) ≡ inner_awaits i
-with_tag_awaits (in_list ns ts) t = refl
-with_tag_awaits (in_object ms) t = refl
-with_tag_awaits (in_pair ms k ts) t = refl
 
 pub back_inside_events : (a : Around) → inner_events (back_inside a) ≡ around_events a
 back_inside_events (around_list ns ts) = refl

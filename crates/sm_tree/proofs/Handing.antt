@@ -5,7 +5,7 @@ use Rattle.std.proofs.lemmas.Bool.Decides.{nat_tests}
 use Rattle.std.specs.Prelude.{nat_le}
 use Rattle.sm_tree.specs.Events.{NodeEvent}
 use Rattle.sm_tree.specs.Timing.{TimedEvent, by_byte, by_end, untimed, complete_with, HandsOn}
-use Rattle.sm_tree.specs.Streams.{StandsFor, BeginsStream, TakesOn, Streams}
+use Rattle.sm_tree.specs.Streams.{StandsFor, BeginsStream, Streams}
 use Rattle.sm_tree.specs.steps.Handing.{AreLater, TakesAll}
 
 -- with fewer bytes to come they are complete too
@@ -93,6 +93,3 @@ takes_both S M T out more first behind es stands begins =
     let is = append_assoc es out more in
     let all = subst BeginsStream (sym is) begins in
     subst T is (behind (es ++ out) (first es stands (begins_before (es ++ out) more all)) all)
-
-pub takes_next : (S M T : StandsFor) (e : NodeEvent) (out : List NodeEvent) → TakesOn S e M → TakesAll M out T → TakesAll S (e ∷ out) T
-takes_next S M T e out first behind = takes_both S M T (e ∷ []) out first behind

@@ -8,10 +8,6 @@ use Rattle.sm_tree.specs.Numbers.{IsDigit, AreDigits}
 use Rattle.sm_tree.specs.NumberTail.{IsNumberByte, AreNumberBytes, NumberTail, NumberLeads}
 use Rattle.sm_tree.specs.declared.number.Phase.{Phase}
 
-pub digits_joined : (xs ys : List ℕ) → AreDigits xs → AreDigits ys → AreDigits (xs ++ ys)
-digits_joined [] ys h k = k
-digits_joined (x ∷ xs) ys h k = (h.0, digits_joined xs ys h.1 k)
-
 pub bytes_joined : (xs ys : List ℕ) → AreNumberBytes xs → AreNumberBytes ys → AreNumberBytes (xs ++ ys)
 bytes_joined [] ys h k = k
 bytes_joined (x ∷ xs) ys h k = (h.0, bytes_joined xs ys h.1 k)
@@ -19,11 +15,6 @@ bytes_joined (x ∷ xs) ys h k = (h.0, bytes_joined xs ys h.1 k)
 pub digits_are_bytes : (ds : List ℕ) → AreDigits ds → AreNumberBytes ds
 digits_are_bytes [] h = tt
 digits_are_bytes (d ∷ ds) h = (inl h.0, digits_are_bytes ds h.1)
-
--- one digit more
-pub digits_grow : (xs : List ℕ) (i : ℕ) → i < length xs → IsDigit (get_or xs i 0) → AreDigits (take i xs) → AreDigits (take (i + 1) xs)
-digits_grow xs i lt d h = let grown : take (i + 1) xs ≡ take i xs ++ get_or xs i 0 ∷ [] = grind (arith, common_steps) in
-    subst AreDigits (sym grown) (digits_joined (take i xs) (get_or xs i 0 ∷ []) h (d, tt))
 
 pub leads_nowhere : (p : Phase) → NumberLeads p [] p
 leads_nowhere p = record { onward = λ u t. t; back = λ u t. t }

@@ -1,9 +1,9 @@
 -- Laws of number texts (RFC 8259, section 6): each stands for one tree, and what bytes it has.
-use Rattle.std.proofs.Common.{◌≡◌, ℕ, ◌^◌, ◌≤◌, ◌<◌, ◌⊎◌, inl, inr, ℤ, true, false, List, [], ◌∷◌, ◌++◌, length, take, refl, sym, ap}
+use Rattle.std.proofs.Common.{◌≡◌, ℕ, ◌^◌, ◌≤◌, ◌<◌, ◌⊎◌, inl, inr, ℤ, true, false, List, [], ◌∷◌, ◌++◌, length, refl, sym, ap}
 use Rattle.std.proofs.Common.{subst, ◌∙◌, arith}
 use Rattle.std.specs.Prelude.{IsUtf8}
 use Rattle.std.specs.List.{All}
-use Rattle.std.proofs.lemmas.List.{append-nil, take_all}
+use Rattle.std.proofs.lemmas.List.{append-nil}
 use Rattle.std.proofs.lemmas.Str.{IsUtf8-from_ascii}
 use Rattle.std.proofs.lemmas.Str.Ascii.{IsAscii-from_all}
 use Rattle.std.proofs.lemmas.List.Elements.{All-nil, All-cons}
@@ -67,10 +67,6 @@ completes ExponentDigits = tt
 
 pub number_from_whole : (t : List ℕ) (p : Phase) → NumberLeads Start t p → NumberTail p [] → IsNumber t
 number_from_whole t p h ends = subst IsNumber (append-nil t) (h.back [] ends)
-
--- a run that took all of a text
-pub number_from_run : (t : List ℕ) (n : ℕ) (p : Phase) → NumberLeads Start (take n t) p → length t ≤ n → NumberTail p [] → IsNumber t
-number_from_run t n p h all ends = number_from_whole t p (subst (λ s. NumberLeads Start s p) (take_all n t all) h) ends
 
 pub whole_from_number : (t : List ℕ) (p : Phase) → NumberLeads Start t p → IsNumber t → NumberTail p []
 whole_from_number t p h n = h.onward [] (subst IsNumber (sym (append-nil t)) n)

@@ -5,7 +5,7 @@ ghost use Rattle.sm_tree.specs.View.{node_of};
 ghost use Rattle.sm_tree.specs.Events.{events, start_list as list_starts, start_object as object_starts, end_list as list_ends};
 ghost use Rattle.sm_tree.specs.Events.{end_object as object_ends, key_event, tag_event};
 ghost use Rattle.sm_tree.specs.Building.{so_far, kinds, awaits_value, awaits_content, inner_awaits, goes_on, first_kind, IsIn, tagged};
-ghost use Rattle.sm_tree.specs.steps.BuilderSteps.{with_tree, with_tag, ended, put_around, back_inside, after_tag, after_start, after_end};
+ghost use Rattle.sm_tree.specs.steps.BuilderSteps.{with_tree, with_tag, ended, put_around, back_inside, after_start, after_end};
 ghost use Rattle.sm_tree.specs.BuilderView.{inner_of, around_of, open_of, building_of};
 
 use crate::NoMemory;

@@ -1,6 +1,6 @@
 -- Paths of patterns: what was read, and where the whole text stops.
-use Rattle.std.proofs.Common.{◌≡◌, ◌==◌, ℕ, ◌≤◌, ◌+◌, ◌⊎◌, inl, inr, Bool, true, false, ◌||◌, List, [], ◌∷◌, ◌++◌, length, append_assoc}
-use Rattle.std.proofs.Common.{append-nil, Err, refl, sym, ap, subst, ◌∙◌, arith, length-append}
+use Rattle.std.proofs.Common.{◌≡◌, ◌==◌, ℕ, ◌+◌, ◌⊎◌, inl, inr, Bool, true, false, ◌||◌, List, [], ◌∷◌, ◌++◌, append_assoc}
+use Rattle.std.proofs.Common.{append-nil, Err, refl, sym, ap, subst, ◌∙◌}
 use Rattle.std.specs.List.{list_any, flat_map}
 use Rattle.std.specs.Str.{bytes_eq}
 use Rattle.std.proofs.lemmas.Grind.{flat_map-append}
@@ -284,11 +284,6 @@ text_stops before rest taken behind u root brace e ends (inl none) =
     (subst (EndsRun is_literal_byte) (sym same) ends) brace)
 text_stops before rest taken behind u root brace e ends (inr k) =
     subst (λ x. StopsBefore (AfterSlash before) x behind) (sym e) (literal_stops before taken behind u k.0 ends k.1)
-
--- the place of a stop
-pub stop_within : (L : List ℕ → Type 0) (bytes rest : List ℕ) → StopsBefore L bytes rest → length rest ≤ length bytes
-stop_within L bytes rest b =
-    let len : length bytes ≡ length b.taken + length rest = ap length b.cut ∙ length-append b.taken rest in omega (arith, len)
 
 -- the steps of the reader
 pub path_failed : (text : List ℕ) (old new : reader.Path) (rest : List ℕ) (stop : PatternStop) → PathTaken text old.segments.items rest

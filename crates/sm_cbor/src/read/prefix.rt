@@ -1,6 +1,6 @@
 // Items and keys that are whole in the bytes at hand are taken at once: a head in one step, and a text behind it with
 // one copy. What is cut is taken byte by byte.
-ghost use Rattle.std.specs.Prelude.{◌≡◌, ◌<◌, ◌≤◌, length, IfSome, IsUtf8, OnOk};
+ghost use Rattle.std.specs.Prelude.{◌<◌, ◌≤◌, length, IfSome, IsUtf8};
 ghost use Rattle.sm_cbor.specs.steps.Reading.{IsBehind};
 
 use super::Reader;

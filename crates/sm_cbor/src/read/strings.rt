@@ -1,5 +1,5 @@
 // The bytes of strings and chunks, in runs, and UTF-8 judged as they come.
-ghost use Rattle.std.specs.Prelude.{◌≡◌, ◌<◌, ◌≤◌, length, take, OnOk, IsUtf8, [], ◌∷◌};
+ghost use Rattle.std.specs.Prelude.{◌≡◌, ◌<◌, ◌≤◌, length, take, OnOk, IsUtf8, []};
 ghost use Rattle.sm_bytes.specs.declared.utf8.Utf8.TheVariants.{Between};
 ghost use Rattle.sm_cbor.specs.steps.Machine.{IsSomePrefix};
 
