@@ -1,13 +1,9 @@
 -- What asks that no rule fails holds where none does: each shape of a graph is sound, and each service ready. Of a service that is ready
 -- each shape is sound.
 use Rattle.std.proofs.Common.{ℕ, List}
-use Rattle.std.specs.List.{Contains}
 use Rattle.sm_model.specs.Graphs.{GraphMaps}
 use Rattle.sm_compile.specs.Compiled.{IdSet}
-use Rattle.sm_compile.specs.Roots.{AreSoundRoots}
-use Rattle.sm_compile.specs.Sound.{IsValueShape}
-use Rattle.sm_rules.specs.Ready.{IsOfService, NoneFailsIn, Ready}
-use Rattle.sm_rules.specs.Words.{IsService}
+use Rattle.sm_rules.specs.Ready.{IsOfService, NoneFailsIn}
 use Rattle.sm_accepted.specs.Laws.{ReadyWhereNoneFails, SoundWhereNoneFails, SoundWhereReady}
 use Rattle.sm_accepted.specs.NoneFails.{EachId}
 use Rattle.sm_accepted.proofs.ClosedSets.{reached_inside, service_closed}
@@ -49,9 +45,3 @@ sound_ready g service is ready root of_service has_values id s reached there =
     let closed = service_closed g service is in
     let inside = reached_inside g (IsOfService g service) closed root id of_service reached in
     each_sound g (ready is).formed (IsOfService g service) (ready is).none closed id inside s there
-
--- so one table can be made of any of its shapes
-pub sound_roots : (g : GraphMaps) (service : List ℕ) → IsService g service → Ready g service → (roots : List (List ℕ))
-    → ((root : List ℕ) → Contains roots root → IsValueShape g root × IsOfService g service root) → AreSoundRoots g roots
-sound_roots g service is ready roots each root among =
-    let h = each root among in (h.0, sound_ready g service is ready root h.1)

@@ -124,7 +124,3 @@ each_more Says ds d each here k e h = elim (cases_lt k (length ds)) [
 
 pub each_none : {D : Type 0} (Says : ℕ → D → Type 0) → EachAt Says []
 each_none Says k d h = absurd (none-some d h)
-
-pub each_weaker : {D : Type 0} (Says Tells : ℕ → D → Type 0) → ((k : ℕ) (d : D) → Says k d → Tells k d) → (ds : List D) → EachAt Says ds
-    → EachAt Tells ds
-each_weaker Says Tells to ds each k d h = to k d (each k d h)

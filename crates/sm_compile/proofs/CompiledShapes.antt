@@ -22,13 +22,13 @@ use Rattle.sm_compile.specs.Answers.{IsShapeCompiled, IsTableSeen, StoreSeen, Ta
 use Rattle.sm_compile.specs.Compiled.{AreNumberedFrom, ArePatternsOf, CarriesPattern, IsCompiled, IsTabled, PatternRows, members_under}
 use Rattle.sm_compile.specs.Compiled.{texts_of}
 use Rattle.sm_compile.specs.Reached.{IsReached}
+use Rattle.sm_compile.specs.Tabling.{tabled_below}
 use Rattle.sm_compile.specs.declared.compiled.Served.{Served}
 use Rattle.sm_compile.specs.declared.patterns.CarriedTexts.{CarriedTexts}
 use Rattle.sm_compile.specs.declared.tabled.Tabled.{Tabled}
 use Rattle.sm_compile.specs.steps.Carrying.{AreCarried, IsMarkedId, texts_in}
 use Rattle.sm_compile.specs.steps.Making.{IsMade, IsMadeBy, IsMarkedTable}
 use Rattle.sm_compile.specs.steps.Numbered.{AreMemberRows, AreRowShapes, numbered_by, numbering}
-use Rattle.sm_compile.specs.steps.Tabling.{tabled_below}
 use Rattle.sm_compile.proofs.CarriedPatterns.{carries_told}
 use Rattle.sm_compile.proofs.MadeTables.{media_told, members_told, none_there, shaped_told, shapes_told, unbound_told}
 use Rattle.sm_compile.proofs.MemberHomes.{flat_differ, same_home}

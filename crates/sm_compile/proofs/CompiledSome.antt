@@ -13,6 +13,7 @@ use Rattle.sm_compile.specs.Compiled.{ArePatternsOf}
 use Rattle.sm_compile.specs.Reached.{IsReached}
 use Rattle.sm_compile.specs.Roots.{AreSoundRoots, CompilesRoots, IsReachedFromSome, IsTableOfRoots}
 use Rattle.sm_compile.specs.Sound.{IsValueShape}
+use Rattle.sm_compile.specs.Tabling.{has_values_where, tabled_below}
 use Rattle.sm_compile.specs.declared.compiled.CompileRefusal.{CompileRefusal}
 use Rattle.sm_compile.specs.declared.compiled.CompileRefusal.TheVariants.{NoShape, Pattern, NoMemory}
 use Rattle.sm_compile.specs.declared.tabled.Tabled.{Tabled}
@@ -21,7 +22,6 @@ use Rattle.sm_compile.specs.steps.Looked.{IsReachedFrom, kind_under}
 use Rattle.sm_compile.specs.steps.Making.{IsMarkedTable, TablesMarked}
 use Rattle.sm_compile.specs.steps.Numbered.{AreClosed, numbering}
 use Rattle.sm_compile.specs.steps.Soundness.{AreSoundBelow}
-use Rattle.sm_compile.specs.steps.Tabling.{has_values_where, tabled_below}
 use Rattle.sm_compile.proofs.CarriedSets.{carried_patterns, pattern_refused}
 use Rattle.sm_compile.proofs.CompiledShapes.{made_by, stored_there, table_compiled}
 use Rattle.sm_compile.proofs.MadeTables.{media_told, none_there, shaped_told, unbound_told}

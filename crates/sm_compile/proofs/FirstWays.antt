@@ -1,4 +1,5 @@
--- A walk that enters each shape once finds the first way to a shape that isn't served, or there is none.
+-- A walk that enters each shape once, and none that is known to be served, finds the first way to a shape that isn't served, or there is
+-- none.
 use Rattle.std.proofs.Common.{◌≡◌, ◌⊎◌, inl, inr, ℕ, ◌<◌, Bool, List, [], ◌∷◌, ◌++◌, map, reverse, refl, sym, ap, ◌∙◌, subst, arith}
 use Rattle.std.proofs.Common.{append_assoc}
 use Rattle.std.specs.Cmp.{nat_cmp_is}
@@ -19,7 +20,7 @@ use Rattle.sm_shapes.specs.Names.{AllDiffer, NoneIs}
 use Rattle.sm_compile.specs.Served.{IsFirstWay, IsServed, IsStep, IsUnserved, IsWay, WayStep, entered, names_of_way, numbers_of_way}
 use Rattle.sm_compile.specs.declared.way.Above.{Above}
 use Rattle.sm_compile.specs.steps.Carrying.{IsMarkedId}
-use Rattle.sm_compile.specs.steps.Walking.{IsEntered, IsOpen, StandsAt, ids_above, step_of}
+use Rattle.sm_compile.specs.steps.Walking.{IsOpen, IsPassed, StandsAt, ids_above, step_of}
 use Rattle.sm_compile.proofs.OneWay.{same_step}
 
 abbrev pub is_less : Ordering → Type 0
@@ -53,25 +54,27 @@ way_begins g id [] (inl (s, there, is)) = (shape_entry s, there)
 way_begins g id [] (inr (s, there, is)) = (shape_entry s, there)
 way_begins g id (step ∷ way) h = (shape_entry h.0.s, h.0.there)
 
-module _ (g : Graph) where
+module _ (g : Graph) (known : List Bool) (sure : (x : List ℕ) → IsMarkedId g known x → IsServed (maps_of g) x) where
   abbrev AllServed : List Bool → Type 0
   AllServed marks = (x : List ℕ) → IsMarkedId g marks x → IsUnserved (maps_of g) x → ⊥
 
   abbrev AllTaken : List Bool → List ℕ → Type 0
-  AllTaken marks id = (step : WayStep) → IsStep (maps_of g) id step → IsEntered g marks step.to
+  AllTaken marks id = (step : WayStep) → IsStep (maps_of g) id step → IsPassed g known marks step.to
 
   abbrev AreClosed : List Bool → List (List ℕ) → Type 0
   AreClosed marks open_ids = (x : List ℕ) → IsMarkedId g marks x → Contains open_ids x ⊎ AllTaken marks x
 
-  -- from a shape that was entered no way leads out, but through one that is open
+  -- from a shape that was entered no way leads out, but through one that is open, and none from one that is known to be served
   stuck : (marks : List Bool) (open_ids : List (List ℕ)) → AllServed marks → AreClosed marks open_ids
       → (id : List ℕ) (way : List WayStep) → IsMarkedId g marks id → IsWay (maps_of g) id way → KeepsOff open_ids (entered id way) → ⊥
   stuck marks open_ids served closed id [] here h off = served id here h
   stuck marks open_ids served closed id (step ∷ way) here h off = elim (closed id here) [
     | inl among ↦ off id (contains_head id (entered step.to way)) among
-    | inr taken ↦
-        stuck marks open_ids served closed step.to way (taken step h.0 (way_begins (maps_of g) step.to way h.1)) h.1
-        (λ x there. off x (contains_behind id x (entered step.to way) there))
+    | inr taken ↦ elim (taken step h.0 (way_begins (maps_of g) step.to way h.1)) [
+      | inl marked ↦
+          stuck marks open_ids served closed step.to way marked h.1 (λ x there. off x (contains_behind id x (entered step.to way) there))
+      | inr safe ↦ sure step.to safe way h.1
+    ]
   ]
 
   -- a way before which no other goes that enters no shape twice and keeps off what is open
@@ -99,14 +102,15 @@ module _ (g : Graph) where
   }
 
   least_above : (marks : List Bool) (open_ids : List (List ℕ)) (id : List ℕ) (step : WayStep) (way : List WayStep)
-      → IsOpen g marks (id ∷ open_ids) id step.at → IsStep (maps_of g) id step → IsLeast (id ∷ open_ids) step.to way
+      → IsOpen g known marks (id ∷ open_ids) id step.at → IsStep (maps_of g) id step → IsLeast (id ∷ open_ids) step.to way
       → IsLeast open_ids id (step ∷ way)
   least_above marks open_ids id step way o is least [] h differ off less = o.served id o.here h
   least_above marks open_ids id step way o is least (s ∷ other) h differ off less =
       elim (cases_lt s.at step.at) [
-        | inl before ↦
-            stuck marks (id ∷ open_ids) o.served o.closed s.to other (o.taken s h.0 before (way_begins (maps_of g) s.to other h.1)) h.1
-            off_all
+        | inl before ↦ elim (o.taken s h.0 before (way_begins (maps_of g) s.to other h.1)) [
+          | inl marked ↦ stuck marks (id ∷ open_ids) o.served o.closed s.to other marked h.1 off_all
+          | inr safe ↦ sure s.to safe other h.1
+        ]
         | inr ge ↦ elim (cases_eq s.at step.at) [
           | inl same ↦ at_same same
           | inr apart ↦
@@ -145,7 +149,7 @@ module _ (g : Graph) where
 
   -- what is found from the innermost shape on, carried outwards
   first_found : (root : List ℕ) (marks : List Bool) (id : List ℕ) (above : List Above) (step : WayStep) (way : List WayStep)
-      → StandsAt g root marks id step.at above → IsStep (maps_of g) id step → IsFound marks (id ∷ ids_above g above) step.to way
+      → StandsAt g known root marks id step.at above → IsStep (maps_of g) id step → IsFound marks (id ∷ ids_above g above) step.to way
       → (whole : List WayStep) × IsFirstWay (maps_of g) root whole
       × (names_of_way whole ≡ map (λ (b : Above). b.name.now) (reverse above) ++ step.name ∷ names_of_way way)
   first_found root marks id [] step way h is found = (
@@ -173,7 +177,7 @@ module _ (g : Graph) where
 
   -- the way by which a walk came, and one more step to a shape that isn't served
   pub first_way : (root : List ℕ) (marks : List Bool) (id : List ℕ) (above : List Above) (step : WayStep)
-      → StandsAt g root marks id step.at above → IsStep (maps_of g) id step → IsUnserved (maps_of g) step.to
+      → StandsAt g known root marks id step.at above → IsStep (maps_of g) id step → IsUnserved (maps_of g) step.to
       → (IsMarkedId g marks step.to → ⊥)
       → (whole : List WayStep) × IsFirstWay (maps_of g) root whole
       × (names_of_way whole ≡ map (λ (b : Above). b.name.now) (reverse above) ++ step.name ∷ [])
@@ -181,7 +185,7 @@ module _ (g : Graph) where
       first_found root marks id above step [] h is (found_here marks (id ∷ ids_above g above) step.to unserved fresh)
 
   -- a walk that has come back to its root, and has nothing before it
-  pub none_found : (root : List ℕ) (marks : List Bool) (id : List ℕ) (at : ℕ) → StandsAt g root marks id at [] → AllTaken marks id
+  pub none_found : (root : List ℕ) (marks : List Bool) (id : List ℕ) (at : ℕ) → StandsAt g known root marks id at [] → AllTaken marks id
       → IsServed (maps_of g) root
   none_found root marks id at h taken way is =
       stuck marks [] h.0.served closed id way h.0.here (subst (λ x. IsWay (maps_of g) x way) (sym h.1) is)

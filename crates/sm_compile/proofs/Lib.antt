@@ -18,7 +18,7 @@ mod CarriedPatterns
 mod PatternsPut
 mod TextsPlaced
 mod TextsStored
-mod FirstWays
+pub mod FirstWays
 mod MarksTaken
 mod WalkSteps
 mod WalkTurns
@@ -41,10 +41,10 @@ mod MarkedTables
 mod CarriedSets
 mod CompiledRoots
 mod CompiledSome
-mod NumbersOrdered
+pub mod NumbersOrdered
 mod RowsThere
-mod KeptIds
+pub mod KeptIds
 mod SomePatterns
-mod SomeWay
-mod SomeRows
-mod SomeTable
+pub mod SomeWay
+pub mod SomeRows
+pub mod SomeTable

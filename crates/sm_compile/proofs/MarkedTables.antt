@@ -9,6 +9,7 @@ use Rattle.sm_shapes.specs.TableData.{MemberData, ShapeData, TableData}
 use Rattle.sm_shapes.specs.TableView.{table_data}
 use Rattle.sm_compile.specs.Answers.{StoreSeen}
 use Rattle.sm_compile.specs.Compiled.{PatternRows}
+use Rattle.sm_compile.specs.Tabling.{tabled_below}
 use Rattle.sm_compile.specs.declared.compiled.CompileRefusal.{CompileRefusal}
 use Rattle.sm_compile.specs.declared.compiled.CompileRefusal.TheVariants.{NoShape, Pattern, NoMemory}
 use Rattle.sm_compile.specs.declared.patterns.CarriedTexts.{CarriedTexts}
@@ -19,7 +20,6 @@ use Rattle.sm_compile.specs.steps.Numbered.{AreClosed, AreMemberRows, AreReady, 
 use Rattle.sm_compile.specs.steps.Placing.{AreParts}
 use Rattle.sm_compile.specs.steps.Soundness.{AreSoundBelow}
 use Rattle.sm_compile.specs.steps.Storing.{AreTextsStored, StopsAmong}
-use Rattle.sm_compile.specs.steps.Tabling.{tabled_below}
 use Rattle.sm_compile.proofs.CompiledShapes.{carried_among}
 use Rattle.sm_compile.proofs.ReadyMarks.{ready_told}
 

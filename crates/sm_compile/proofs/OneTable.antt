@@ -1,4 +1,4 @@
--- A shape of a graph has one table over a store.
+-- A set of a graph's shapes has one table with its bindings and media types, and so a shape has one over a store.
 use Rattle.std.proofs.Common.{◌≡◌, ℕ, ◌<◌, zero, suc, Bool, false, List, [], ◌∷◌, map, filter, length, get_or, Some, None, sym, ap, ◌∙◌}
 use Rattle.std.proofs.Common.{subst, arith}
 use Rattle.std.specs.Prelude.{◌||◌, slice_get}
@@ -19,12 +19,9 @@ use Rattle.sm_shapes.specs.TableData.{members_in as listed_in}
 use Rattle.sm_shapes.specs.TableData.{by_json_name_at, by_json_name_in, by_name_at, by_name_in, default_in, default_node_in, json_name_in}
 use Rattle.sm_shapes.specs.TableData.{name_at, name_in}
 use Rattle.sm_shapes.specs.TableData.{needed_in, no_constraints, required_in, shape_count}
-use Rattle.sm_shapes.specs.Fitting.{Test}
-use Rattle.sm_shapes.specs.TableView.{table_data}
 use Rattle.sm_shapes.specs.declared.kinds.ShapeKind.TheVariants.{LeftOut}
-use Rattle.sm_compile.specs.Answers.{IsShapeCompiled, StoreSeen, seen_table}
-use Rattle.sm_compile.specs.Compiled.{AllUnbound, IdSet, IsCompiled, IsUnboundMember, NoMediaTypes, Numbering, SayConstraints, SaysMember}
-use Rattle.sm_compile.specs.Compiled.{SaysShape}
+use Rattle.sm_compile.specs.Compiled.{AllUnbound, AreNumberedFrom, IdSet, IsCompiled, IsUnboundMember, NoMediaTypes, Numbering}
+use Rattle.sm_compile.specs.Compiled.{SayConstraints, SaysMember, SaysShape}
 use Rattle.sm_compile.specs.Compiled.{members_in, members_under, texts_of}
 use Rattle.sm_compile.specs.Kinds.{table_kind, value_members}
 use Rattle.sm_compile.specs.Laws.{OneTable}
@@ -32,8 +29,6 @@ use Rattle.sm_compile.specs.Reached.{IsReached}
 use Rattle.sm_compile.specs.Said.{constraints_said, default_said, format_seen}
 use Rattle.sm_compile.specs.TraitIds.{json_name_id, required_id, sparse_id, unique_items_id}
 use Rattle.sm_compile.specs.TraitNodes.{effective_traits, own_traits, text_of}
-use Rattle.sm_compile.specs.declared.compiled.OneShape.{OneShape}
-use Rattle.sm_compile.specs.declared.compiled.Served.{Served}
 use Rattle.std.specs.Option.{is_some}
 use Rattle.sm_compile.proofs.OnePatterns.{one_texts, same_constraints, same_member, same_rows, same_shape, texts_differ}
 use Rattle.sm_compile.proofs.OneWay.{one_name, one_served}
@@ -41,7 +36,7 @@ use Rattle.sm_compile.proofs.RowsAlike.{AreWithin, contains_mapped, each_at, eac
 use Rattle.sm_compile.proofs.RowsAlike.{same_place}
 
 -- one numbering
-one_numbering : (g : GraphMaps) (In : IdSet) (t u : TableData) (n m : Numbering) → IsCompiled g In t n → IsCompiled g In u m
+pub one_numbering : (g : GraphMaps) (In : IdSet) (t u : TableData) (n m : Numbering) → IsCompiled g In t n → IsCompiled g In u m
     → Path Numbering n m
 one_numbering g In t u n m h k =
     let shapes = one_rising nat_list_cmp_total n.shapes m.shapes h.shapes_rise k.shapes_rise (λ id. (
@@ -85,12 +80,27 @@ no_shape = record {
 abbrev needed_by : List MemberData → ℕ → Bool
 needed_by ms k = required_in (slice_get ms k) || (is_some (default_node_in (slice_get ms k)) || is_some (default_in (slice_get ms k)))
 
--- a table that says what the graph says, with what is asked of it
+-- a table that says what the graph says, and is in order
 record IsTableOf (g : GraphMaps) (In : IdSet) (n : Numbering) (t : TableData) : Type 0 where
   compiled : IsCompiled g In t n
   shaped : Shaped t
-  unbound : AllUnbound t.members
-  media : NoMediaTypes t.shapes
+
+-- the rows of two tables have the same bindings and media types
+pub record AreBoundAlike (t u : TableData) : Type 0 where
+  pub bindings : (k : ℕ) (d : MemberData) → k < member_count t → k < member_count u
+      → (get_or t.members k d).binding ≡ (get_or u.members k d).binding
+  pub media : (k : ℕ) (d : MemberData) → k < member_count t → k < member_count u
+      → (get_or t.members k d).media_type ≡ (get_or u.members k d).media_type
+  pub shapes : (s : ℕ) (d : ShapeData) → s < shape_count t → s < shape_count u
+      → (get_or t.shapes s d).media_type ≡ (get_or u.shapes s d).media_type
+
+unbound_alike : (t u : TableData) → AllUnbound t.members → AllUnbound u.members → NoMediaTypes t.shapes → NoMediaTypes u.shapes
+    → AreBoundAlike t u
+unbound_alike t u free unbound none nothing = record {
+  bindings = λ k d less also. (all_unbound t.members free k d less).0 ∙ sym (all_unbound u.members unbound k d also).0;
+  media = λ k d less also. (all_unbound t.members free k d less).1 ∙ sym (all_unbound u.members unbound k d also).1;
+  shapes = λ s d less also. no_media t.shapes none s d less ∙ sym (no_media u.shapes nothing s d also);
+}
 
 module _ (g : GraphMaps) (In : IdSet) (n : Numbering) where
   module _ (t : TableData) (h : IsTableOf g In n t) where
@@ -129,7 +139,8 @@ module _ (g : GraphMaps) (In : IdSet) (n : Numbering) where
     blocks_differ : AllDiffer (flat_map (members_under g) n.shapes)
     blocks_differ = subst AllDiffer h.compiled.members_follow h.compiled.members_once
 
-  module _ (t u : TableData) (h : IsTableOf g In n t) (k : IsTableOf g In n u) (patterns : t.patterns ≡ u.patterns) where
+  module _ (t u : TableData) (h : IsTableOf g In n t) (k : IsTableOf g In n u) (patterns : t.patterns ≡ u.patterns)
+      (bound : AreBoundAlike t u) where
     differ : AllDiffer (texts_of u.patterns)
     differ = texts_differ g In (texts_of u.patterns) k.compiled.patterns.firsts k.compiled.patterns.each k.compiled.patterns.rise
 
@@ -148,8 +159,8 @@ module _ (g : GraphMaps) (In : IdSet) (n : Numbering) where
         (home_has t h j less d) (home_has u k j also d)
 
     member_row : (id : List ℕ) (d e : MemberData) → SaysMember g t.patterns n id d → SaysMember g u.patterns n id e → d.shape ≡ e.shape
-        → IsUnboundMember d → IsUnboundMember e → Path MemberData d e
-    member_row id d e a b shape free unbound =
+        → d.binding ≡ e.binding → d.media_type ≡ e.media_type → Path MemberData d e
+    member_row id d e a b shape binding media =
         let m = same_member g id a.m b.m a.there b.there in
         let home = same_shape g (get_or n.shapes e.shape []) a.home b.home
         (subst (λ s. HasEntry g (get_or n.shapes s []) (shape_entry a.home)) shape a.home_there) b.home_there in
@@ -170,8 +181,6 @@ module _ (g : GraphMaps) (In : IdSet) (n : Numbering) where
         let format = a.format ∙ (λ i. format_seen (effective_traits (m i).traits (target i).traits)) ∙ sym b.format in
         let node = a.default_node ∙ (λ i. default_said (home i).kind (m i) (target i).kind) ∙ sym b.default_node in
         let default = a.no_default ∙ sym b.no_default in
-        let binding = free.0 ∙ sym unbound.0 in
-        let media = free.1 ∙ sym unbound.1 in
         λ i. record {
           shape = shape i;
           name = name i;
@@ -191,8 +200,8 @@ module _ (g : GraphMaps) (In : IdSet) (n : Numbering) where
         let also : j < member_count u = subst (λ c. j < c) many_members less in
         member_row (get_or n.members j []) (get_or t.members j d) (get_or u.members j d) (says_member t h j d less)
         (says_member u k j d also)
-        (sym (home_here t h j d less) ∙ same_home j less some ∙ home_here u k j d also) (all_unbound t.members h.unbound j d less)
-        (all_unbound u.members k.unbound j d also))
+        (sym (home_here t h j d less) ∙ same_home j less some ∙ home_here u k j d also) (bound.bindings j d less also)
+        (bound.media j d less also))
 
     module _ (members : Path (List MemberData) t.members u.members) where
       same_listed : (s : ℕ) (d : ShapeData) → s < shape_count t → s < shape_count u → members_at t s ≡ members_at u s
@@ -243,7 +252,7 @@ module _ (g : GraphMaps) (In : IdSet) (n : Numbering) where
           let sparse = a.sparse ∙ (λ i. is_some (fin.get (shape i).traits sparse_id)) ∙ sym b.sparse in
           let unit = a.unit ∙ sym b.unit in
           let format = a.format ∙ (λ i. format_seen (own_traits (shape i).traits)) ∙ sym b.format in
-          let media = no_media t.shapes h.media s d less ∙ sym (no_media u.shapes k.media s d also) in
+          let media = bound.shapes s d less also in
           let rows_members = sym (ap listed_in at_t) ∙ listed ∙ ap listed_in at_u in
           let rows_by_name = sym (ap by_name_in at_t) ∙ by_name ∙ ap by_name_in at_u in
           let rows_by_json = sym (ap by_json_name_in at_t) ∙ by_json ∙ ap by_json_name_in at_u in
@@ -272,33 +281,23 @@ module _ (g : GraphMaps) (In : IdSet) (n : Numbering) where
         let shapes = same_shapes members in
         λ i. record { shapes = shapes i; members = members i; patterns = patterns i }
 
+-- two tables of one set whose patterns are numbered from one number on are one, where they are bound alike
+pub one_compiled : (g : GraphMaps) (In : IdSet) (t u : TableData) (n m : Numbering) (first : ℕ) → IsCompiled g In t n → IsCompiled g In u m
+    → Shaped t → Shaped u → AreNumberedFrom first t.patterns → AreNumberedFrom first u.patterns → AreBoundAlike t u → Path TableData t u
+one_compiled g In t u n m first h k shaped ordered from also bound =
+    let left = subst (IsCompiled g In t) (one_numbering g In t u n m h k) h in
+    let texts = one_texts g In (texts_of t.patterns) (texts_of u.patterns) h.patterns k.patterns in
+    same_table g In m t u (record { compiled = left; shaped = shaped }) (record { compiled = k; shaped = ordered })
+    (same_rows first t.patterns u.patterns from also texts) bound
+
 pub one_seen : OneTable
 one_seen g root test before now later one other p q =
     let t = one.table in
     let u = other.table in
     let numbering = one_numbering g (IsReached g root) t u p.numbering q.numbering p.compiled q.compiled in
-    let texts = one_texts g (IsReached g root) (texts_of t.patterns) (texts_of u.patterns) p.compiled.patterns q.compiled.patterns in
-    let patterns = same_rows (length before.added) t.patterns u.patterns p.numbered q.numbered texts in
-    let h : IsTableOf g (IsReached g root) q.numbering t = record {
-      compiled = subst (IsCompiled g (IsReached g root) t) numbering p.compiled;
-      shaped = p.shaped;
-      unbound = p.unbound;
-      media = p.no_media;
-    } in
-    let k : IsTableOf g (IsReached g root) q.numbering u = record {
-      compiled = q.compiled;
-      shaped = q.shaped;
-      unbound = q.unbound;
-      media = q.no_media;
-    } in
     let shape = subst (λ (m : Numbering). slice_get m.shapes one.shape ≡ Some root) numbering p.shape in (
-      same_table g (IsReached g root) q.numbering t u h k patterns,
+      one_compiled g (IsReached g root) t u p.numbering q.numbering (length before.added) p.compiled q.compiled p.shaped q.shaped p.numbered
+          q.numbered (unbound_alike t u p.unbound q.unbound p.no_media q.no_media),
       same_place q.numbering.shapes q.compiled.shapes_once one.shape other.shape root shape q.shape,
       one_served g root one.served other.served p.served q.served,
     )
-
--- and so tables of the code
-pub one_table : (g : GraphMaps) (root : List ℕ) (test : Test) (before now later : StoreSeen) (one other : OneShape)
-    → IsShapeCompiled g root test before now one → IsShapeCompiled g root test before later other
-    → Path TableData (table_data one.table) (table_data other.table) × (one.shape ≡ other.shape) × Path Served one.served other.served
-one_table g root test before now later one other p q = one_seen g root test before now later (seen_table one) (seen_table other) p q

@@ -58,7 +58,7 @@ module _ (g : GraphMaps) where
   neither Equal x y is h k = slice_cmp-IsAntisymmetric nat_cmp-IsAntisymmetric x y is
   neither Greater x y is h k = absurd (k (nat_list_cmp_total.antisymm y x ∙ ap ordering_reverse is))
 
-  one_way : (root : List ℕ) (v w : List WayStep) → IsFirstWay g root v → IsFirstWay g root w → names_of_way v ≡ names_of_way w
+  pub one_way : (root : List ℕ) (v w : List WayStep) → IsFirstWay g root v → IsFirstWay g root w → names_of_way v ≡ names_of_way w
   one_way root v w h k =
       same_names root v w h.simple.0 k.simple.0
       (neither (slice_cmp nat_cmp (numbers_of_way v) (numbers_of_way w)) (numbers_of_way v) (numbers_of_way w) refl (k.first v h.simple)

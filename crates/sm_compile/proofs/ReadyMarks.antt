@@ -19,11 +19,11 @@ use Rattle.sm_compile.specs.Compiled.{CarriesPattern}
 use Rattle.sm_compile.specs.Kinds.{has_value_members, has_values, may_target, members_of_kind, value_members}
 use Rattle.sm_compile.specs.Reached.{IsReached, LeadsBy, LeadsTo}
 use Rattle.sm_compile.specs.Sound.{IsSoundShape, IsValueShape, Sound}
+use Rattle.sm_compile.specs.Tabling.{has_values_where, tabled_below}
 use Rattle.sm_compile.specs.steps.Carrying.{IsMarkedId}
 use Rattle.sm_compile.specs.steps.Looked.{IsReachedFrom, kind_under, listed_in, target_in, target_under}
 use Rattle.sm_compile.specs.steps.Numbered.{AreClosed, AreReady, IsReadyMember}
 use Rattle.sm_compile.specs.steps.Soundness.{AreSoundBelow}
-use Rattle.sm_compile.specs.steps.Tabling.{has_values_where, tabled_below}
 use Rattle.sm_compile.proofs.ReachedNumbers.{to_member, to_target}
 use Rattle.sm_compile.proofs.ReadyRows.{sound_among, value_among}
 use Rattle.sm_compile.proofs.SoundTests.{both_of, first_of, second_of}

@@ -1,5 +1,6 @@
--- The rows of a table of all shapes that a sound shape reaches: each is told by its place, from what the graph says there.
-use Rattle.std.proofs.Common.{◌≡◌, inl, inr, ℕ, ◌+◌, ◌<◌, ◌≤◌, cond, List, [], length, get_or, Option, Some, None, refl, sym, ap}
+-- The rows of a table of the shapes of a set to which all belongs that they lead to: each is told by its place, from what the graph says
+-- there.
+use Rattle.std.proofs.Common.{◌≡◌, inl, inr, ℕ, ◌+◌, ◌<◌, ◌≤◌, true, cond, List, [], length, get_or, Option, Some, None, refl, sym, ap}
 use Rattle.std.proofs.Common.{◌∙◌, subst, arith}
 use Rattle.std.specs.Prelude.{◌↔◌, IsUtf8, is_some, unwrap_or}
 use Rattle.std.specs.FinMap as fin
@@ -15,15 +16,16 @@ use Rattle.sm_tree.specs.Node.{Node, null, bool, int, number, text, bytes, tag, 
 use Rattle.sm_tree.specs.Json.{IsJson}
 use Rattle.sm_model.specs.Graphs.{shape_entry, member_entry, GraphMaps, ShapeEntry, member_id}
 use Rattle.sm_model.specs.PreludeShapes.{unit_id}
+use Rattle.sm_model.specs.Relations.{HasEntry}
 use Rattle.sm_shapes.specs.TableData.{MemberData, ShapeData, TableData, json_name_at, name_at}
 use Rattle.sm_shapes.specs.InOrder.{is_needed}
-use Rattle.sm_compile.specs.Compiled.{AreNumberedFrom, IsCarrier, IsTabled, NamesText, PatternRows, SaysMember, members_under}
+use Rattle.sm_compile.specs.Compiled.{AreNumberedFrom, IdSet, IsCarrier, IsTabled, NamesText, PatternRows, SaysMember, members_under}
 use Rattle.sm_compile.specs.Compiled.{texts_of}
-use Rattle.sm_compile.specs.Kinds.{is_text_kind, table_kind, value_members}
+use Rattle.sm_compile.specs.Kinds.{has_values, is_text_kind, table_kind, value_members}
 use Rattle.sm_compile.specs.Laws.{IsSpelledGraph}
-use Rattle.sm_compile.specs.Reached.{IsReached}
+use Rattle.sm_compile.specs.Reached.{LeadsTo}
 use Rattle.sm_compile.specs.Said.{constraints_said, default_said, format_seen, pattern_seen}
-use Rattle.sm_compile.specs.Sound.{IsSoundMember, IsValueShape, Sound}
+use Rattle.sm_compile.specs.Sound.{IsSoundMember, IsSoundShape}
 use Rattle.sm_compile.specs.TraitIds.{json_name_id, pattern_id, required_id, sparse_id, unique_items_id}
 use Rattle.sm_compile.specs.TraitNodes.{effective_traits, own_traits, text_of}
 use Rattle.sm_compile.specs.steps.Making.{IsMadeBy}
@@ -34,10 +36,18 @@ use Rattle.sm_compile.proofs.MemberNames.{json_names_there_differ, members_are, 
 use Rattle.sm_compile.proofs.MemberNames.{value_names}
 use Rattle.sm_compile.proofs.NamesBehind.{one_named}
 use Rattle.sm_compile.proofs.NumbersOrdered.{some_order}
-use Rattle.sm_compile.proofs.ReadyMarks.{by_more, target_values, value_some}
+use Rattle.sm_compile.proofs.ReadyMarks.{target_values, value_some}
 use Rattle.sm_compile.proofs.ReadyRows.{sound_among, value_among}
 use Rattle.sm_compile.proofs.RowsThere.{IsInBlock, in_block, rows_there}
 use Rattle.sm_compile.proofs.SomePatterns.{number_named}
+
+-- a set to which all belongs that members and targets lead to from what is of it, and of which each shape with values is in order
+abbrev pub IsClosedSet : GraphMaps → IdSet → Type 0
+IsClosedSet g In = (from to : List ℕ) → In from → LeadsTo g from to → In to
+
+abbrev pub IsSoundSet : GraphMaps → IdSet → Type 0
+IsSoundSet g In =
+    (id : List ℕ) (s : ShapeEntry) → In id → HasEntry g id (shape_entry s) → has_values s.kind ≡ true → IsSoundShape g id s
 
 -- a text that may be there, or one of UTF-8 in its place
 text_utf8 : (o : Option Node) (u : List ℕ) → ((n : Node) → o ≡ Some n → IsJson n) → IsUtf8 u → IsUtf8 (unwrap_or (text_of o) u)
@@ -53,18 +63,18 @@ text_utf8 (Some (opaque b)) u h k = k
 text_utf8 (Some (list ns)) u h k = k
 text_utf8 (Some (object ms)) u h k = k
 
-module _ (g : GraphMaps) (root : List ℕ) (ids : List (List ℕ)) (value : IsValueShape g root) (sound : Sound g root)
-    (told : (id : List ℕ) → Contains ids id ↔ IsTabled g (IsReached g root) id) (spelled : IsSpelledGraph g) where
+module _ (g : GraphMaps) (In : IdSet) (ids : List (List ℕ)) (closed : IsClosedSet g In) (sound : IsSoundSet g In)
+    (told : (id : List ℕ) → Contains ids id ↔ IsTabled g In id) (spelled : IsSpelledGraph g) where
   pub rows_ready : AreRowShapes g ids
   rows_ready id there =
-      let v = (told id).0 there in record { s = v.1.0; there = v.1.1; sound = sound value id v.1.0 v.0 v.1.1 }
+      let v = (told id).0 there in record { s = v.1.0; there = v.1.1; sound = sound id v.1.0 v.0 v.1.1 v.1.2 }
 
   -- a member of a shape that has a row, with its target
   record IsMemberReady (home id : List ℕ) : Type 0 where
     pub shape : IsRowShape g home
     pub member : IsSoundMember g shape.s.kind id
-    pub here : IsReached g root id
-    pub led_to : IsReached g root member.m.target
+    pub here : In id
+    pub led_to : In member.m.target
     pub target : Contains ids member.m.target
     pub name : List ℕ
     pub named : id ≡ member_id home name
@@ -72,13 +82,13 @@ module _ (g : GraphMaps) (root : List ℕ) (ids : List (List ℕ)) (value : IsVa
   member_ready : (home id : List ℕ) → Contains ids home → Contains (members_under g home) id → IsMemberReady home id
   member_ready home id there among =
       let row = rows_ready home there in
-      let reached = ((told home).0 there).0 in
+      let reached : In home = ((told home).0 there).0 in
       let values : Contains (value_members row.s) id = subst (λ ms. Contains ms id) (members_are g home row) among in
       let listed = value_among row.s.kind row.s.members id values in
       let member = sound_among g row.s.kind row.s.members id row.sound.each listed in
-      let here : IsReached g root id = by_more g root home id reached.0 reached.1
+      let here : In id = closed home id reached
       (inl (shape_entry row.s, row.there, inl (refl, listed), (member_entry member.m, member.there))) in
-      let led_to : IsReached g root member.m.target = by_more g root id member.m.target here.0 here.1
+      let led_to : In member.m.target = closed id member.m.target here
       (inr (member_entry member.m, member.there, (refl, refl), (shape_entry member.target, member.found))) in
       let name = one_named home (value_names g home row.s row.sound) (members_under g home) id
       (members_are g home row ∙ value_ids g home row.s row.sound) among in
@@ -100,7 +110,7 @@ module _ (g : GraphMaps) (root : List ℕ) (ids : List (List ℕ)) (value : IsVa
       }
 
   module _ (first : ℕ) (ps : PatternRows) (numbered : AreNumberedFrom first ps)
-      (patterns : (u id : List ℕ) → IsCarrier g (IsReached g root) u id → Contains (texts_of ps) u) where
+      (patterns : (u id : List ℕ) → IsCarrier g In u id → Contains (texts_of ps) u) where
     -- the pattern that counts at a member is its own or its target's
     member_pattern : (home id : List ℕ) (r : IsMemberReady home id) (u : List ℕ)
         → pattern_seen r.member.target.kind (effective_traits r.member.m.traits r.member.target.traits) ≡ Some u → Contains (texts_of ps) u
@@ -127,7 +137,7 @@ module _ (g : GraphMaps) (root : List ℕ) (ids : List (List ℕ)) (value : IsVa
             )
         by None h = patterns u r.member.m.target (r.led_to, inl (r.member.target, r.member.found, at None h))
 
-    shape_pattern : (id : List ℕ) (s : ShapeEntry) → IsReached g root id → fin.get g.shapes id ≡ Some (shape_entry s) → (u : List ℕ)
+    shape_pattern : (id : List ℕ) (s : ShapeEntry) → In id → fin.get g.shapes id ≡ Some (shape_entry s) → (u : List ℕ)
         → pattern_seen s.kind (own_traits s.traits) ≡ Some u → Contains (texts_of ps) u
     shape_pattern id s reached there u seen = patterns u id (reached, inl (s, there, seen))
 

@@ -47,10 +47,10 @@ module _ (g : GraphMaps) (id : List ℕ) where
       (sym (step_at step h) ∙ ap (slice_get (members_under g id)) same ∙ stands)
 
 -- one that leads to a shape that wasn't entered
-pub fresh_found : (g : Graph) (marks : List Bool) (shape at to : ℕ) (found : Option NextStep) → IsShapeNumber g to
-    → get_or marks to false ≡ false → FindsTo g shape at to found → FindsAt g marks shape at found
-fresh_found g marks shape at to None lt fresh h = λ step is same. absurd (h step is same)
-fresh_found g marks shape at to (Some next) lt fresh h = record {
+pub fresh_found : (g : Graph) (known marks : List Bool) (shape at to : ℕ) (found : Option NextStep) → IsShapeNumber g to
+    → get_or marks to false ≡ false → FindsTo g shape at to found → FindsAt g known marks shape at found
+fresh_found g known marks shape at to None lt fresh h = λ step is same. absurd (h step is same)
+fresh_found g known marks shape at to (Some next) lt fresh h = record {
   is_at = h.0;
   target = subst (IsShapeNumber g) (sym h.1) lt;
   step = h.2;

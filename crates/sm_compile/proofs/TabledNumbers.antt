@@ -2,7 +2,7 @@
 use Rattle.std.proofs.Common.{◌≡◌, ℕ, suc, ◌+◌, Bool, true, false, cond, List, [], ◌∷◌, ◌++◌, ap, arith}
 use Rattle.sm_model.specs.GraphView.{AreShapeNumbers, IsShapeNumber}
 use Rattle.sm_model.specs.declared.graph.Graph.{Graph}
-use Rattle.sm_compile.specs.steps.Tabling.{is_tabled, tabled_below}
+use Rattle.sm_compile.specs.Tabling.{is_tabled, tabled_below}
 
 abbrev pub put : Bool → ℕ → List ℕ
 put b n = cond b (n ∷ []) []

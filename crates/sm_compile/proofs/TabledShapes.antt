@@ -26,8 +26,8 @@ use Rattle.sm_model.proofs.Searching.{and_left, keys_rise}
 use Rattle.sm_model.proofs.Worklist.{apart}
 use Rattle.sm_compile.specs.Compiled.{IsTabled}
 use Rattle.sm_compile.specs.Sound.{IsValueShape}
+use Rattle.sm_compile.specs.Tabling.{has_values_where, is_tabled, tabled_below}
 use Rattle.sm_compile.specs.steps.Looked.{kind_in, kind_under}
-use Rattle.sm_compile.specs.steps.Tabling.{has_values_where, is_tabled, tabled_below}
 use Rattle.sm_compile.proofs.SoundTests.{both_of, first_of, second_of}
 use Rattle.sm_compile.proofs.TabledNumbers.{put}
 

@@ -11,4 +11,5 @@ pub mod WayRooms
 pub mod Roots
 pub mod Laws
 pub mod Looked
+pub mod Tabling
 pub mod steps

@@ -7,7 +7,6 @@ pub mod Storing
 pub mod Unserved
 pub mod Walking
 pub mod Rows
-pub mod Tabling
 pub mod Numbered
 pub mod Valued
 pub mod Placing

@@ -1,5 +1,5 @@
 // The table of a shape with all that it reaches.
-ghost use Rattle.std.specs.Prelude.{◌≡◌, IfOk, MatchOption};
+ghost use Rattle.std.specs.Prelude.{◌≡◌, MatchOption};
 ghost use Rattle.sm_ids.specs.IdText.{printed};
 ghost use Rattle.sm_ids.specs.View.{id_of};
 ghost use Rattle.sm_model.specs.GraphView.{IsShapeNumber, maps_of};

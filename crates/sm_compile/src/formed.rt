@@ -5,7 +5,6 @@ ghost use Rattle.sm_tree.specs.View.{node_of};
 ghost use Rattle.sm_model.specs.GraphView.{IsShapeNumber, maps_of};
 ghost use Rattle.sm_model.specs.Reaching.{id_of_number};
 ghost use Rattle.sm_compile.specs.Sound.{trait_of};
-ghost use Rattle.sm_compile.specs.TraitIds.{enum_value_id};
 ghost use Rattle.sm_compile.specs.TraitNodes as nodes;
 ghost use Rattle.sm_compile.specs.TraitNodes.{where_there};
 ghost use Rattle.sm_compile.specs.steps.Tests as tests;

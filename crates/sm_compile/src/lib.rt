@@ -38,6 +38,7 @@ pub use formed::{are_lengths_where, are_ordered_where, are_whole_bounds_where, i
 pub use kinds::{has_length, has_values, is_text_kind, is_whole_kind, may_target, table_kind};
 pub use look::{id_text, kind_of, members_of, target_kind, target_of, targets_unit, trait_node};
 pub use names::{json_name, member_name};
+pub use numbering::{tabled_shapes, value_members};
 pub use parts::row_at;
 pub use reach::unmark_all;
 pub use roots::compile_roots;

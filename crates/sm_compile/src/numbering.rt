@@ -4,9 +4,9 @@ ghost use Rattle.sm_model.specs.GraphView.{AreShapeNumbers, IsShapeNumber, entri
 ghost use Rattle.sm_model.specs.Reaching.{id_of_number};
 ghost use Rattle.sm_compile.specs.Compiled.{members_under};
 ghost use Rattle.sm_compile.specs.Kinds as kinds;
+ghost use Rattle.sm_compile.specs.Tabling as tabling;
+ghost use Rattle.sm_compile.specs.Tabling.{has_values_where, tabled_below};
 ghost use Rattle.sm_compile.specs.steps.Looked.{listed_under};
-ghost use Rattle.sm_compile.specs.steps.Tabling as tabling;
-ghost use Rattle.sm_compile.specs.steps.Tabling.{has_values_where, tabled_below};
 
 use crate::kinds::{has_value_members, has_values};
 use crate::look::{kind_of, members_of};
@@ -14,12 +14,9 @@ use sm_model::{Graph, Kind};
 use sm_tree::NoMemory;
 use std::alloc::Global;
 
-/// The numbers of the marked shapes that have values, in order: the shapes of a table.
-pub(crate) fn tabled_shapes(
-    alloc: Global,
-    graph: &Graph,
-    marks: &[bool],
-) -> Result<Vec<u32>, NoMemory>
+/// The numbers of the marked shapes that have values, in order: the shapes of a table. `NoMemory` where memory is refused. Linear in the
+/// graph's shapes and members.
+pub fn tabled_shapes(alloc: Global, graph: &Graph, marks: &[bool]) -> Result<Vec<u32>, NoMemory>
     requires { length marks.now ≡ length (entries_of graph.now) }
     ensures numbers { IfOk result (λ shapes. AreShapeNumbers graph.now shapes.items) }
     ensures shapes { IfOk result (λ shapes. shapes.items ≡ tabled_below graph.now marks.now (length marks.now)) }
@@ -67,8 +64,8 @@ fn has_values_where(kind: Option<Kind>) -> bool
     }
 }
 
-/// The numbers of the members at which values of a shape stand, in model order.
-pub(crate) fn value_members(graph: &Graph, shape: u32) -> &[u32]
+/// The numbers of the members at which values of a shape stand, in model order. No memory.
+pub fn value_members(graph: &Graph, shape: u32) -> &[u32]
     requires { IsShapeNumber graph.now shape }
     ensures ids { map (id_of_number graph.now) result.now ≡ members_under (maps_of graph.now) (id_of_number graph.now shape) }
     ensures numbers { AreShapeNumbers graph.now result.now }

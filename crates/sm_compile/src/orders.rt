@@ -1,8 +1,6 @@
 // The orders of a shape's members in a table: their numbers in model order, by their names, and those that are needed.
 ghost use Rattle.std.specs.Prelude.{◌≡◌, ◌<◌, ◌+◌, ◌++◌, ◌^◌, ◌∷◌, [], IfOk, OnOk, cond, map};
-ghost use Rattle.std.specs.Cmp.Lexicographic.{slice_cmp};
 ghost use Rattle.std.specs.List.{filter};
-ghost use Rattle.std.specs.Ordering.{nat_cmp};
 ghost use Rattle.sm_shapes.specs.InOrder.{AreByName};
 ghost use Rattle.sm_shapes.specs.InOrder as ordered;
 ghost use Rattle.sm_shapes.specs.Names.{AllDiffer};

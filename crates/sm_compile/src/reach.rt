@@ -1,8 +1,8 @@
 // What is reached by members and targets, by number; and marks that are taken back.
-ghost use Rattle.std.specs.Prelude.{◌≡◌, ◌↔◌, ℕ, IfOk, List, false, length, replicate};
+ghost use Rattle.std.specs.Prelude.{◌≡◌, ◌↔◌, ℕ, IfOk, false, length, replicate};
 ghost use Rattle.std.specs.List.{Contains};
-ghost use Rattle.sm_model.specs.GraphView.{AreShapeNumbers, entries_of, maps_of};
-ghost use Rattle.sm_model.specs.Reaching.{AreFound, AreMarks, Finds, IsMarked, id_of_number};
+ghost use Rattle.sm_model.specs.GraphView.{AreShapeNumbers, entries_of};
+ghost use Rattle.sm_model.specs.Reaching.{AreMarks, IsMarked, id_of_number};
 ghost use Rattle.sm_compile.specs.steps.Looked.{IsReachedFrom, LeadsByNumber};
 
 use crate::look::{members_of, target_of};

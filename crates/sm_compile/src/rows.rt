@@ -1,8 +1,7 @@
 // The rows of a table, but for the numbers in them: each says what the graph says of a shape or of a member.
 ghost use Rattle.std.specs.Prelude.{◌≡◌, IfOk, None, Some};
-ghost use Rattle.std.specs.Option.{option_copied, option_map};
+ghost use Rattle.std.specs.Option.{option_copied};
 ghost use Rattle.std.specs.Str.{bytes_eq};
-ghost use Rattle.sm_tree.specs.View.{node_of};
 ghost use Rattle.sm_model.specs.GraphView.{IsShapeNumber, maps_of};
 ghost use Rattle.sm_model.specs.PreludeShapes.{unit_id};
 ghost use Rattle.sm_model.specs.Reaching.{id_of_number};

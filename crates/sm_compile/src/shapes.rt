@@ -1,7 +1,6 @@
 // The rows of a table's shapes.
 ghost use Rattle.std.specs.Prelude.{◌≡◌, ◌<◌, ◌≤◌, ◌+◌, ◌^◌, IfOk, length, map};
 ghost use Rattle.sm_model.specs.GraphView.{maps_of};
-ghost use Rattle.sm_model.specs.Reaching.{id_of_number};
 ghost use Rattle.sm_shapes.specs.TableView.{member_data, shape_data};
 ghost use Rattle.sm_compile.specs.steps.Numbered.{AreMemberRows, EachAt, IsShapeRow, count_of_shape, first_of_shape, numbering};
 ghost use Rattle.sm_compile.specs.steps.Placing.{AreParts};

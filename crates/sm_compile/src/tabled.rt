@@ -1,6 +1,6 @@
 // The table of marked shapes: of one shape and all that it reaches, or of all that several reach.
 ghost use Rattle.std.specs.Prelude.{◌≡◌, IfOk, length, map};
-ghost use Rattle.sm_model.specs.GraphView.{entries_of, maps_of};
+ghost use Rattle.sm_model.specs.GraphView.{entries_of};
 ghost use Rattle.sm_shapes.specs.TableView.{member_data, shape_data, table_data};
 ghost use Rattle.sm_compile.specs.Answers.{seen_store};
 ghost use Rattle.sm_compile.specs.steps.Making.{IsMade, TablesMarked};

@@ -1,14 +1,10 @@
 // What the values of traits say, and which values they may have. Nothing here takes memory.
-ghost use Rattle.std.specs.Prelude.{◌≡◌, IsSome, Some, None};
+ghost use Rattle.std.specs.Prelude.{◌≡◌, Some, None};
 ghost use Rattle.std.specs.Option.{option_copied, option_map};
 ghost use Rattle.sm_tree.specs.View.{node_of};
-ghost use Rattle.sm_model.specs.GraphView.{IsShapeNumber, maps_of};
-ghost use Rattle.sm_model.specs.Reaching.{id_of_number};
-ghost use Rattle.sm_compile.specs.Sound.{trait_of};
 ghost use Rattle.sm_compile.specs.TraitNodes as nodes;
-ghost use Rattle.sm_compile.specs.TraitNodes.{bound_of, field_of, format_named, number_in, number_of, text_of, where_there};
+ghost use Rattle.sm_compile.specs.TraitNodes.{bound_of, field_of, format_named, number_in, number_of, text_of};
 ghost use Rattle.sm_tree.specs.Parts.{text_in};
-ghost use Rattle.sm_compile.specs.steps.Tests as tests;
 
 use crate::look::trait_node;
 use sm_model::{Graph, Kind, pairs_of, text_of, tree_under};

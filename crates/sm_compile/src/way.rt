@@ -1,4 +1,5 @@
-// Turns of a walk that enters each shape once, without recursion, and so finds the first way to a shape that isn't served.
+// Turns of a walk that enters each shape once, without recursion, and none that is known to be served, and so finds the first way to a shape
+// that isn't served.
 ghost use Rattle.std.specs.Prelude.{◌≡◌, ◌++◌, ◌∷◌, [], IfOk, OnOk, Some, length, slice_get, string_bytes};
 ghost use Rattle.sm_bytes.specs.Ascii.{slash};
 ghost use Rattle.sm_model.specs.GraphView.{IsShapeNumber, entries_of, maps_of};
@@ -42,6 +43,8 @@ pub(crate) struct NextStep<'a> {
 /// Where a walk stands.
 #[derive(Drop)]
 pub(crate) struct Walk<'a> {
+    /// Which shapes are known to be served, as marks of all numbers: it goes to none of them.
+    pub known: Vec<bool>,
     /// Which shapes it has entered, as marks of all numbers.
     pub marks: Vec<bool>,
     /// The numbers of those, each once.
@@ -73,7 +76,13 @@ pub(crate) fn take_turn<'a>(
     ensures kept { AreEntered graph.now walk.new }
     ensures turn { IfOk result (λ turn. Turns graph.now walk.old walk.new turn) }
 {
-    match next_step(graph, walk.marks.as_slice(), walk.shape, walk.at) {
+    match next_step(
+        graph,
+        walk.known.as_slice(),
+        walk.marks.as_slice(),
+        walk.shape,
+        walk.at,
+    ) {
         Some(next) => go_on(alloc, graph, walk, next),
         None => Ok(leave(graph, walk)),
     }
@@ -87,7 +96,7 @@ fn go_on<'a>(
     next: NextStep<'a>,
 ) -> Result<Turn, NoMemory>
     requires walk { Walks graph.now walk.old }
-    requires next { IsNext graph.now walk.old.marks.items walk.old.shape walk.old.at next }
+    requires next { IsNext graph.now walk.old.known.items walk.old.marks.items walk.old.shape walk.old.at next }
     ensures kept { AreEntered graph.now walk.new }
     ensures turn { IfOk result (λ turn. Turns graph.now walk.old walk.new turn) }
 {
@@ -106,7 +115,7 @@ fn find<'a>(
     next: NextStep<'a>,
 ) -> Result<Turn, NoMemory>
     requires walk { Walks graph.now walk.old }
-    requires next { IsNext graph.now walk.old.marks.items walk.old.shape walk.old.at next }
+    requires next { IsNext graph.now walk.old.known.items walk.old.marks.items walk.old.shape walk.old.at next }
     requires unserved { IsUnserved (maps_of graph.now) (id_of_number graph.now next.to) }
     ensures kept { AreEntered graph.now walk.new }
     ensures turn { IfOk result (λ turn. Turns graph.now walk.old walk.new turn) }
@@ -118,7 +127,7 @@ fn find<'a>(
 // Into the next shape.
 fn enter<'a>(graph: &'a Graph, walk: &mut Walk<'a>, next: NextStep<'a>) -> Result<Turn, NoMemory>
     requires walk { Walks graph.now walk.old }
-    requires next { IsNext graph.now walk.old.marks.items walk.old.shape walk.old.at next }
+    requires next { IsNext graph.now walk.old.known.items walk.old.marks.items walk.old.shape walk.old.at next }
     requires served { IsUnserved (maps_of graph.now) (id_of_number graph.now next.to) → ⊥ }
     ensures kept { AreEntered graph.now walk.new }
     ensures turn { IfOk result (λ turn. Turns graph.now walk.old walk.new turn) }
@@ -139,7 +148,7 @@ fn enter<'a>(graph: &'a Graph, walk: &mut Walk<'a>, next: NextStep<'a>) -> Resul
 // Back to the shape from which the walk came; there the member by which it went on is looked at again, and passed by.
 fn leave<'a>(graph: &'a Graph, walk: &mut Walk<'a>) -> Turn
     requires walk { Walks graph.now walk.old }
-    requires none { NoneIsNext graph.now walk.old.marks.items walk.old.shape walk.old.at }
+    requires none { NoneIsNext graph.now walk.old.known.items walk.old.marks.items walk.old.shape walk.old.at }
     ensures kept { AreEntered graph.now walk.new }
     ensures turn { Turns graph.now walk.old walk.new result }
 {
@@ -173,15 +182,22 @@ fn put_name(path: &mut String, name: &str) -> Result<(), NoMemory>
     Ok(())
 }
 
-// The first step from a shape, by a member of this number or a later one, to a shape that wasn't entered.
-fn next_step<'a>(graph: &'a Graph, marks: &[bool], shape: u32, start: usize) -> Option<NextStep<'a>>
+// The first step from a shape, by a member of this number or a later one, to a shape that wasn't entered and isn't known to be served.
+fn next_step<'a>(
+    graph: &'a Graph,
+    known: &[bool],
+    marks: &[bool],
+    shape: u32,
+    start: usize,
+) -> Option<NextStep<'a>>
+    requires known { length known.now ≡ length (entries_of graph.now) }
     requires count { length marks.now ≡ length (entries_of graph.now) }
     requires number { IsShapeNumber graph.now shape }
-    ensures { FindsNext graph.now marks.now shape start result }
+    ensures { FindsNext graph.now known.now marks.now shape start result }
 {
     let members = value_members(graph, shape);
     for at in start..members.len() {
-        match fresh_step(graph, marks, shape, at, members[at]) {
+        match fresh_step(graph, known, marks, shape, at, members[at]) {
             Some(next) => return Some(next),
             None => {}
         }
@@ -189,24 +205,26 @@ fn next_step<'a>(graph: &'a Graph, marks: &[bool], shape: u32, start: usize) -> 
     None
 }
 
-// The step by the member of this number, where it leads to a shape that wasn't entered.
+// The step by the member of this number, where it leads to a shape that wasn't entered and isn't known to be served.
 fn fresh_step<'a>(
     graph: &'a Graph,
+    known: &[bool],
     marks: &[bool],
     shape: u32,
     at: usize,
     member: u32,
 ) -> Option<NextStep<'a>>
+    requires known { length known.now ≡ length (entries_of graph.now) }
     requires count { length marks.now ≡ length (entries_of graph.now) }
     requires shape { IsShapeNumber graph.now shape }
     requires member { IsShapeNumber graph.now member }
     requires stands { slice_get (members_under (maps_of graph.now) (id_of_number graph.now shape)) at
         ≡ Some (id_of_number graph.now member) }
-    ensures { FindsAt graph.now marks.now shape at result }
+    ensures { FindsAt graph.now known.now marks.now shape at result }
 {
     match target_of(graph, member) {
         Some(to) => {
-            if marks[to as usize] {
+            if marks[to as usize] || known[to as usize] {
                 None
             } else {
                 named_step(graph, shape, at, member, to)

@@ -1,10 +1,11 @@
 // Room for walks over a graph, one after the other: what a walk marks is taken back, so that it costs what it reaches, and not the graph.
+// What is known to be served before they go costs nothing.
 ghost use Rattle.std.specs.Prelude.{◌≡◌, IfOk, OnOk, [], false, length, replicate};
 ghost use Rattle.sm_model.specs.GraphView.{IsShapeNumber, maps_of};
 ghost use Rattle.sm_model.specs.Reaching.{AreFound, id_of_number};
 ghost use Rattle.sm_compile.specs.Answers.{TellsServed};
 ghost use Rattle.sm_compile.specs.Served.{IsUnserved};
-ghost use Rattle.sm_compile.specs.WayRooms.{IsClearWalk, IsRoomFor};
+ghost use Rattle.sm_compile.specs.WayRooms.{AreKnownServed, IsClearWalk, IsRoomFor};
 ghost use Rattle.sm_compile.specs.steps.Walking.{AreEntered, IsWalk};
 
 use crate::compiled::Served;
@@ -26,8 +27,18 @@ impl<'a> WayRoom<'a> {
     pub fn new(alloc: Global, graph: &Graph) -> Result<Self, NoMemory>
         ensures { IfOk result (λ room. IsRoomFor graph.now room) }
     {
+        let known = no_marks(alloc, graph.count() as usize)?;
+        WayRoom::over(alloc, graph, known)
+    }
+
+    /// The same where these shapes, marks of all numbers, are known to be served: no walk goes to them.
+    pub fn over(alloc: Global, graph: &Graph, known: Vec<bool>) -> Result<Self, NoMemory>
+        requires known { AreKnownServed graph.now known.items }
+        ensures { IfOk result (λ room. IsRoomFor graph.now room) }
+    {
         let marks = no_marks(alloc, graph.count() as usize)?;
         let walk = Walk {
+            known,
             marks,
             entered: Vec::new(alloc),
             above: Vec::new(alloc),
@@ -37,15 +48,18 @@ impl<'a> WayRoom<'a> {
         Ok(WayRoom { walk })
     }
 
-    /// Whether values of all that a shape reaches can be carried, or the first member path to a shape whose values can't. n log n in what
-    /// is reached. `NoMemory` where the walk, or the path, finds no room. The room serves again, whatever is answered.
+    /// Whether values of all that a shape reaches can be carried, or the first member path to a shape whose values can't. One step where
+    /// the shape is known to be served, else n log n in what is reached by steps that don't go by one that is. `NoMemory` where the walk,
+    /// or the path, finds no room. The room serves again, whatever is answered.
     pub fn served(&mut self, alloc: Global, graph: &'a Graph, root: u32) -> Result<Served, NoMemory>
         requires number { IsShapeNumber graph.now root }
         requires room { IsRoomFor graph.now self.old }
         ensures room { IsRoomFor graph.now self.new }
         ensures served { IfOk result (λ s. TellsServed (maps_of graph.now) (id_of_number graph.now root) s) }
     {
-        if is_unserved(graph, root) {
+        if self.walk.known[root as usize] {
+            Ok(Served::Yes)
+        } else if is_unserved(graph, root) {
             unserved_root(alloc, graph, root)
         } else {
             let answer = walk_from(alloc, graph, &mut self.walk, root);
@@ -117,6 +131,7 @@ fn clear(walk: &mut Walk<'_>)
     ensures marks { walk.new.marks.items ≡ replicate (length walk.old.marks.items) false }
     ensures entered { walk.new.entered.items ≡ [] }
     ensures above { walk.new.above.items ≡ [] }
+    ensures known { walk.new.known.items ≡ walk.old.known.items }
 {
     unmark_all(walk.entered.as_slice(), &mut walk.marks);
     walk.entered.clear();

@@ -1,6 +1,5 @@
 // Enum.Values: enums have members, and these have values that differ.
-ghost use Rattle.std.specs.Prelude.{◌≡◌, ℕ, List, OnOk, Some, length};
-ghost use Rattle.sm_tree.specs.Node.{Node};
+ghost use Rattle.std.specs.Prelude.{◌≡◌, OnOk, Some, length};
 ghost use Rattle.sm_model.specs.GraphView.{AreShapeNumbers, IsShapeNumber, maps_of};
 ghost use Rattle.sm_model.specs.Reaching.{id_of_number};
 ghost use Rattle.sm_model.specs.Joins.{Joins};

@@ -1,5 +1,5 @@
 // Nodes checked for shapes: one table of all shapes that a pass asks for, with the defaults that count.
-ghost use Rattle.std.specs.Prelude.{◌≡◌, ℕ, IfOk};
+ghost use Rattle.std.specs.Prelude.{ℕ, IfOk};
 ghost use Rattle.std.specs.List.{Contains};
 ghost use Rattle.sm_tree.specs.View.{node_of};
 ghost use Rattle.sm_shapes.specs.AnyStore.{any_texts, no_refusals, none_refused};

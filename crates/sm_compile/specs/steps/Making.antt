@@ -7,6 +7,7 @@ use Rattle.sm_shapes.specs.TableData.{TableData}
 use Rattle.sm_shapes.specs.TableView.{table_data}
 use Rattle.sm_compile.specs.Answers.{IsLeftBehind, StoreSeen}
 use Rattle.sm_compile.specs.Compiled.{PatternRows}
+use Rattle.sm_compile.specs.Tabling.{tabled_below}
 use Rattle.sm_compile.specs.declared.compiled.CompileRefusal.{CompileRefusal}
 use Rattle.sm_compile.specs.declared.compiled.CompileRefusal.TheVariants.{NoShape, Pattern, NoMemory}
 use Rattle.sm_compile.specs.declared.tabled.Tabled.{Tabled}
@@ -14,7 +15,6 @@ use Rattle.sm_compile.specs.declared.patterns.CarriedTexts.{CarriedTexts}
 use Rattle.sm_compile.specs.steps.Carrying.{AreCarried, rows_in, texts_in}
 use Rattle.sm_compile.specs.steps.Numbered.{AreMemberRows, AreReady, EachAt, IsShapeRow, numbered_by, numbering}
 use Rattle.sm_compile.specs.steps.Storing.{AreTextsStored, IsRefusedAmong}
-use Rattle.sm_compile.specs.steps.Tabling.{tabled_below}
 
 -- a table of these shapes of the graph, with these patterns
 pub record IsMade (g : Graph) (numbers : List ℕ) (ps : PatternRows) (t : TableData) : Type 0 where

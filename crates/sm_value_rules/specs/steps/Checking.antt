@@ -13,7 +13,7 @@ use Rattle.sm_compile.specs.Kinds.{is_left_out, table_kind}
 use Rattle.sm_compile.specs.Looked.{kind_under}
 use Rattle.sm_compile.specs.Served.{IsLeftOut}
 use Rattle.sm_compile.specs.Sound.{IsSoundAt}
-use Rattle.sm_compile.specs.steps.Tabling.{has_values_where}
+use Rattle.sm_compile.specs.Tabling.{has_values_where}
 
 -- what stands at a number is a shape that isn't in order, or one of a type left out
 abbrev pub IsFaultyAt : Graph → ℕ → Type 0

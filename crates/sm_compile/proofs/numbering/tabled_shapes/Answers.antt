@@ -1,6 +1,6 @@
 use Rattle.std.proofs.Common.{◌++◌, ap, subst, sym, ◌∙◌, arith}
 use Rattle.sm_model.specs.GraphView.{AreShapeNumbers, IsShapeNumber}
-use Rattle.sm_compile.specs.steps.Tabling.{is_tabled}
+use Rattle.sm_compile.specs.Tabling.{is_tabled}
 use Rattle.sm_compile.proofs.TabledNumbers.{numbers_if, put, tabled_more}
 use Rattle.sm_compile.proofs.ReachedNumbers.{numbers_joined}
 use Rattle.sm_compile.proofs.numbering.tabled_shapes.Goals as goal

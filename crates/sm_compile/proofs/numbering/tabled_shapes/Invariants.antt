@@ -1,6 +1,6 @@
 use Rattle.std.proofs.Common.{◌≡◌}
 use Rattle.sm_model.specs.GraphView.{AreShapeNumbers}
-use Rattle.sm_compile.specs.steps.Tabling.{tabled_below}
+use Rattle.sm_compile.specs.Tabling.{tabled_below}
 use Rattle.sm_compile.proofs.numbering.tabled_shapes.Given as goal
 
 abbrev pub invariant-loop-number : goal.invariant-loop-number

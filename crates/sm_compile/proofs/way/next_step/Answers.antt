@@ -1,5 +1,6 @@
-use Rattle.std.proofs.Common.{◌≡◌, ◌<◌, ap, get_or, length, map, sym, ◌∙◌, arith}
+use Rattle.std.proofs.Common.{◌≡◌, inl, inr, ◌<◌, ap, get_or, length, map, sym, ◌∙◌, arith}
 use Rattle.std.specs.Prelude.{slice_get}
+use Rattle.std.proofs.lemmas.Bool.{cases_eq}
 use Rattle.std.proofs.lemmas.List.{length-map}
 use Rattle.std.proofs.lemmas.List.Elements.{Contains-get_or}
 use Rattle.std.proofs.lemmas.Option.{slice_get_within}
@@ -34,3 +35,9 @@ returns c step is ge =
     ap (λ ids. length ids) c.value_members-members.ensures.ids in
     let before : step.at < c.loop-at.at = omega (arith, within, long, length-map ms (id_of_number g), c.loop-at-test.false) in
     c.loop-at.invariant step is ge before
+
+pub loop-at-preserved : goal.loop-at-preserved
+loop-at-preserved c step is ge less = elim (cases_eq step.at c.loop-at.at) [
+  | inl same ↦ c.in-None.ensures step is same
+  | inr other ↦ c.loop-at.invariant step is ge (omega (arith, less, other))
+]

@@ -1,4 +1,4 @@
-use Rattle.std.proofs.Common.{refl, subst, sym, arith}
+use Rattle.std.proofs.Common.{refl, arith}
 use Rattle.sm_compile.proofs.WalkTurns.{begins, clear_entered, root_entered}
 use Rattle.sm_compile.proofs.way_room.begin.Goals as goal
 
@@ -8,7 +8,7 @@ index_mut-requires c =
 
 pub returns-clause-kept : goal.returns-clause-kept
 returns-clause-kept c =
-    root_entered c.args.graph.now c.args.walk.now _ c.args.root c.requires.clear c.requires.number refl c.in_ok-push.ensures.items
+    root_entered c.args.graph.now c.args.walk.now _ c.args.root c.requires.clear c.requires.number refl c.in_ok-push.ensures.items refl
 
 pub returns-clause-walk : goal.returns-clause-walk
 returns-clause-walk c =
