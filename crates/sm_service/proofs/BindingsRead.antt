@@ -54,7 +54,7 @@ module _ (g : GraphMaps) (service : List ℕ) (is : IsService g service) (ready 
           absurd (contains_none id (subst (λ xs. Contains xs id) (bare_of_prelude g (ready is).formed shape s home of_prelude).0 among))
       by false own = refl
 
-  inside : IsOfService g service id
+  pub inside : IsOfService g service id
   inside =
       service_closed g service is shape id tabled.2.0 (inl (shape_entry s, home, inl (refl, among), (member_entry there.0, there.1)))
 

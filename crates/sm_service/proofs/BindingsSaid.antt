@@ -34,7 +34,7 @@ binding_said g id m there b h = by b (subst (λ (o : Option Entry). SaysBindingB
     by (Some response_code) h = h
 
 -- a text that is there
-text_is_there : (o : Option Node) (t : List ℕ) → text_of o ≡ Some t → is_some o ≡ true
+pub text_is_there : (o : Option Node) (t : List ℕ) → text_of o ≡ Some t → is_some o ≡ true
 text_is_there None t h = absurd (none-some t h)
 text_is_there (Some n) t h = refl
 

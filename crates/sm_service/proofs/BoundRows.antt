@@ -10,18 +10,21 @@ use Rattle.sm_model.specs.GraphView.{maps_of}
 use Rattle.sm_model.specs.Relations.{HasEntry}
 use Rattle.sm_model.specs.declared.graph.Graph.{Graph}
 use Rattle.sm_shapes.specs.BindingPuts.{with_binding, with_bindings}
+use Rattle.sm_shapes.specs.DefaultPuts.{HasNoDefault}
 use Rattle.sm_shapes.specs.Fitting.{Test}
+use Rattle.sm_shapes.specs.InOrder.{Shaped}
 use Rattle.sm_shapes.specs.TableData.{BindingData, MemberData, ShapeData, TableData, binding_at, binding_in}
 use Rattle.sm_shapes.specs.TableData.{default_node_at, default_node_in}
 use Rattle.sm_compile.specs.Answers.{StoreSeen}
-use Rattle.sm_compile.specs.Compiled.{EachSays, Numbering, PatternRows, SaysMember, SaysShape}
+use Rattle.sm_compile.specs.Compiled.{EachSays, IdSet, IsCompiled, Numbering, PatternRows, SaysMember, SaysShape}
 use Rattle.sm_compile.specs.Looked.{target_in}
 use Rattle.sm_compile.specs.Sound.{trait_in, trait_of}
 use Rattle.sm_compile.specs.TraitIds.{media_type_id}
 use Rattle.sm_compile.specs.TraitNodes.{text_of}
 use Rattle.sm_compile.specs.steps.Numbered.{numbering}
 use Rattle.sm_compile.proofs.RowsAlike.{each_at}
-use Rattle.sm_service.specs.Bound.{BindsMember, BindsShape, SaysBinding}
+use Rattle.sm_rules.specs.Ready.{IsOfService}
+use Rattle.sm_service.specs.Bound.{Binds, BindsMember, BindsShape, SaysBinding}
 use Rattle.sm_service.specs.steps.BindingsTold.{AreBindingTexts, TellsBinding, TellsMedia, TellsShapeMedia, table_bound, with_media}
 use Rattle.sm_service.specs.steps.BindingsTold.{with_shape_media}
 use Rattle.sm_service.specs.steps.ServiceTables.{IsBoundFrom, IsBoundTable, IsTableOfShapes}
@@ -151,6 +154,46 @@ module _ (g : GraphMaps) (ps : PatternRows) (n : Numbering) where
   }
 
 -- the whole table
+pub record BoundParts (g : GraphMaps) (In : IdSet) (n : Numbering) (u : TableData) : Type 0 where
+  pub compiled : IsCompiled g In u n
+  pub binds : Binds g n u
+  pub shaped : Shaped u
+  pub no_default : HasNoDefault u
+
+module _ (g : GraphMaps) (In : IdSet) (n : Numbering) (t : TableData) (c : IsCompiled g In t n) (shaped : Shaped t) (none : HasNoDefault t)
+    (texts : (id : List ℕ) → Contains n.members id → AreBindingTexts (trait_of g id)) where
+  pub bound_parts : (bindings : List (Option BindingData)) (media shape_media : List (Option (List ℕ)))
+      → EachSays (TellsBinding g) n.members bindings → EachSays (TellsMedia g) n.members media
+      → EachSays (TellsShapeMedia g) n.shapes shape_media → BoundParts g In n (table_bound t bindings media shape_media)
+  bound_parts bindings media shape_media bindings_told media_told shapes_told =
+      let ps = t.patterns in
+      let u = table_bound t bindings media shape_media in
+      let members = each_member g ps n t bindings media shape_media texts bindings_told media_told shapes_told c.says_members
+      c.says_shapes in
+      let rows = each_shape g ps n t bindings media shape_media texts bindings_told media_told shapes_told c.says_members c.says_shapes in
+      let same = alike g ps n t bindings media shape_media in
+      record {
+        compiled = record {
+          shapes = c.shapes;
+          members = c.members;
+          shapes_rise = c.shapes_rise;
+          members_follow = c.members_follow;
+          shapes_once = c.shapes_once;
+          members_once = c.members_once;
+          says_shapes = each_along (SaysWholeShape g ps n) (SaysShape g ps n) n.shapes u.shapes (λ id d h. h.says) rows;
+          says_members = each_along (SaysWhole g ps n) (SaysMember g ps n) n.members u.members (λ id d h. h.says) members;
+          patterns = c.patterns;
+        };
+        binds = record {
+          shapes = each_along (SaysWholeShape g ps n) (BindsShape g) n.shapes u.shapes (λ id d h. h.binds) rows;
+          members = each_along (SaysWhole g ps n) (BindsMember g) n.members u.members (λ id d h. h.binds) members;
+        };
+        shaped = still_shaped t u same none
+            (unbound_at g ps n t bindings media shape_media texts bindings_told media_told shapes_told c.says_members c.says_shapes) shaped;
+        no_default = still_no_default t u same none;
+      }
+
+-- that of a graph
 module _ (g : Graph) (service : List ℕ) (shapes : List ℕ) (test : Test) (before now : StoreSeen) (t : TableData)
     (plain : IsTableOfShapes g service shapes test before now t)
     (texts : (id : List ℕ) → Contains (numbering g shapes).members id → AreBindingTexts (trait_of (maps_of g) id)) where
@@ -165,40 +208,21 @@ module _ (g : Graph) (service : List ℕ) (shapes : List ℕ) (test : Test) (bef
       → EachSays (TellsShapeMedia (maps_of g)) n.shapes shape_media → IsWhole (table_bound t bindings media shape_media)
   whole_bound bindings media shape_media bindings_told media_told shapes_told =
       let m = maps_of g in
-      let c = plain.compiled in
-      let u = table_bound t bindings media shape_media in
-      let members = each_member m t.patterns n t bindings media shape_media texts bindings_told media_told shapes_told c.says_members
-      c.says_shapes in
-      let rows = each_shape m t.patterns n t bindings media shape_media texts bindings_told media_told shapes_told c.says_members
-      c.says_shapes in
-      let same = alike m t.patterns n t bindings media shape_media in
+      let parts = bound_parts m (IsOfService m service) n t plain.compiled plain.shaped plain.no_default texts bindings media shape_media
+      bindings_told media_told shapes_told in
       record {
         of_shapes = record {
-          compiled = record {
-            shapes = c.shapes;
-            members = c.members;
-            shapes_rise = c.shapes_rise;
-            members_follow = c.members_follow;
-            shapes_once = c.shapes_once;
-            members_once = c.members_once;
-            says_shapes = each_along (SaysWholeShape m t.patterns n) (SaysShape m t.patterns n) n.shapes u.shapes (λ id d h. h.says) rows;
-            says_members = each_along (SaysWhole m t.patterns n) (SaysMember m t.patterns n) n.members u.members (λ id d h. h.says) members;
-            patterns = c.patterns;
-          };
+          compiled = parts.compiled;
           numbered = plain.numbered;
-          shaped = still_shaped t u same plain.no_default
-              (unbound_at m t.patterns n t bindings media shape_media texts bindings_told media_told shapes_told c.says_members
-              c.says_shapes) plain.shaped;
-          built = still_built t u same plain.no_default now.added test plain.built;
-          no_default = still_no_default t u same plain.no_default;
+          shaped = parts.shaped;
+          built = still_built t (table_bound t bindings media shape_media) (alike m t.patterns n t bindings media shape_media)
+              plain.no_default now.added test plain.built;
+          no_default = parts.no_default;
           added = plain.added;
           refused = plain.refused;
           refusals = plain.refusals;
         };
-        binds = record {
-          shapes = each_along (SaysWholeShape m t.patterns n) (BindsShape m) n.shapes u.shapes (λ id d h. h.binds) rows;
-          members = each_along (SaysWhole m t.patterns n) (BindsMember m) n.members u.members (λ id d h. h.binds) members;
-        };
+        binds = parts.binds;
       }
 
   pub bound_whole : (u : TableData) → IsBoundFrom g shapes t u → IsWhole u

@@ -23,9 +23,8 @@ use Rattle.sm_model.specs.declared.kind.Kind.{Kind}
 use Rattle.sm_model.specs.declared.kind.Kind.TheVariants as model
 use Rattle.sm_model.proofs.LinkedEntries.{cons_cases}
 use Rattle.sm_model.proofs.NumberedIds.{one_entry}
-use Rattle.sm_model.proofs.OneRising.{contains_behind, contains_head}
 use Rattle.sm_model.proofs.Worklist.{apart}
-use Rattle.sm_shapes.specs.Names.{AllDiffer, NoneIs}
+use Rattle.sm_shapes.specs.Names.{AllDiffer}
 use Rattle.sm_compile.specs.Compiled.{EachSays, Numbering}
 use Rattle.sm_compile.specs.TraitIds.{error_id}
 use Rattle.sm_compile.specs.TraitNodes.{field_of, text_of}
@@ -40,6 +39,7 @@ use Rattle.sm_accepted.proofs.GivenShapes.{entry_given}
 use Rattle.sm_service.specs.Compiled.{SaysError}
 use Rattle.sm_service.specs.ServiceData.{name_of_error}
 use Rattle.sm_service.specs.declared.error.ErrorShape.{ErrorShape}
+use Rattle.sm_service.proofs.ErrorNames.{names_apart}
 use Rattle.sm_service.proofs.SaidReferences.{body_pair, name_of_pair}
 use Rattle.sm_service.proofs.ServableIds.{name_of_id, shape_id}
 
@@ -147,53 +147,39 @@ module _ (g : GraphMaps) (f : IsFormedGraph g) (service : List ℕ) (v : ShapeEn
         );
       }
 
-  smaller_again : (smaller id : List ℕ) → IsErrorOf g service smaller → IsErrorOf g service id → text_cmp smaller id ≡ Less
-      → name_part smaller ≡ name_part id → ⊥
+  -- no two that are named have one name
+  smaller_again : (smaller id : List ℕ) → IsNamedIn g service v smaller (name_part smaller) → IsNamedIn g service v id (name_part id)
+      → text_cmp smaller id ≡ Less → name_part smaller ≡ name_part id → ⊥
   smaller_again smaller id e f order same =
       none.names service id (inl refl) (name_again (record {
         v = v;
         own = own;
         name = name_part id;
-        named = error_named id f;
+        named = f;
         smaller = smaller;
         other = name_part smaller;
-        other_named = error_named smaller e;
+        other_named = e;
         order = order;
         same = ap (map to_ascii_lowercase) same;
       }))
 
-  pub one_error : (a b : List ℕ) → IsErrorOf g service a → IsErrorOf g service b → name_part a ≡ name_part b → a ≡ b
-  one_error a b e f same = by (text_cmp a b) refl
+  pub one_named : (a b : List ℕ) → IsNamedIn g service v a (name_part a) → IsNamedIn g service v b (name_part b)
+      → name_part a ≡ name_part b → a ≡ b
+  one_named a b e f same = by (text_cmp a b) refl
     where
       by : (r : Ordering) → text_cmp a b ≡ r → a ≡ b
       by Less is = absurd (smaller_again a b e f is same)
       by Equal is = slice_cmp-IsAntisymmetric nat_cmp-IsAntisymmetric a b is
       by Greater is = absurd (smaller_again b a f e (nat_list_cmp_total.antisymm b a ∙ ap ordering_reverse is) (sym same))
 
-  -- so errors whose ids differ have names that differ
-  module _ (n : Numbering) where
-    none_named : (a : List ℕ) (e : ErrorShape) → e.id ≡ a → IsErrorOf g service a → (ids : List (List ℕ)) (es : List ErrorShape)
-        → EachSays (SaysError g n) ids es → NoneIs a ids → ((id : List ℕ) → Contains ids id → IsErrorOf g service id)
-        → NoneIs (name_of_error e) (map name_of_error es)
-    none_named a e is error [] [] says differ each = tt
-    none_named a e is error [] (x ∷ es) says differ each = absurd says
-    none_named a e is error (b ∷ ids) [] says differ each = absurd says
-    none_named a e is error (b ∷ ids) (x ∷ es) says differ each = (
-      λ same. differ.0 (one_error b a (each b (contains_head b ids)) error
-          (sym (ap name_part says.0.id_is) ∙ same ∙ ap name_part is)),
-      none_named a e is error ids es says.1 differ.1 (λ id there. each id (contains_behind b id ids there)),
-    )
+  pub one_error : (a b : List ℕ) → IsErrorOf g service a → IsErrorOf g service b → name_part a ≡ name_part b → a ≡ b
+  one_error a b e f same = one_named a b (error_named a e) (error_named b f) same
 
-    pub error_names_differ : (ids : List (List ℕ)) (es : List ErrorShape) → EachSays (SaysError g n) ids es → AllDiffer ids
-        → ((id : List ℕ) → Contains ids id → IsErrorOf g service id) → AllDiffer (map name_of_error es)
-    error_names_differ [] [] says differ each = tt
-    error_names_differ [] (x ∷ es) says differ each = absurd says
-    error_names_differ (a ∷ ids) [] says differ each = absurd says
-    error_names_differ (a ∷ ids) (x ∷ es) says differ each =
-        let later : (id : List ℕ) → Contains ids id → IsErrorOf g service id = λ id there. each id (contains_behind a id ids there) in (
-          none_named a x says.0.id_is (each a (contains_head a ids)) ids es says.1 differ.0 later,
-          error_names_differ ids es says.1 differ.1 later,
-        )
+  -- so errors whose ids differ have names that differ
+  pub error_names_differ : (n : Numbering) (ids : List (List ℕ)) (es : List ErrorShape) → EachSays (SaysError g n) ids es → AllDiffer ids
+      → ((id : List ℕ) → Contains ids id → IsErrorOf g service id) → AllDiffer (map name_of_error es)
+  error_names_differ n ids es says differ each =
+      names_apart g n ids es says differ (λ a b x y same. one_error a b (each a x) (each b y) same)
 
 -- an id has one shape
 pub one_shape : (g : GraphMaps) (id : List ℕ) (s t : ShapeEntry) → HasEntry g id (shape_entry s) → HasEntry g id (shape_entry t) → s ≡ t

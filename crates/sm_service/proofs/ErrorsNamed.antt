@@ -21,7 +21,7 @@ use Rattle.sm_service.specs.steps.KeptPlaces.{below_place, moved_place}
 use Rattle.sm_service.proofs.KeptErrors.{kept_at_place, moved_not, moved_past}
 
 -- what a search by names finds
-with_some : (f : ℕ → List ℕ) (w : List ℕ) (ks : List ℕ) (k : ℕ) → member_with f w ks ≡ Some k → (f k ≡ w) × IsAmong k ks
+pub with_some : (f : ℕ → List ℕ) (w : List ℕ) (ks : List ℕ) (k : ℕ) → member_with f w ks ≡ Some k → (f k ≡ w) × IsAmong k ks
 with_some f w [] k e = absurd (none-some k e)
 with_some f w (j ∷ ks) k e = by (bytes_eq (f j) w) refl e (λ h. with_some f w ks k h)
   where
@@ -44,12 +44,12 @@ with_none f w (j ∷ ks) e k among is = by (bytes_eq (f j) w) refl e among (λ h
     by false other e (inr later) rest = rest e later
 
 -- numbers in a row
-among_below : (a n k : ℕ) → IsAmong k (range_with_len a n) → k < a + n
+pub among_below : (a n k : ℕ) → IsAmong k (range_with_len a n) → k < a + n
 among_below a zero k h = absurd h
 among_below a (suc n) k (inl e) = omega (arith, e)
 among_below a (suc n) k (inr h) = let rest = among_below (a + 1) n k h in omega (arith, rest)
 
-below_among : (a n k : ℕ) → a ≤ k → k < a + n → IsAmong k (range_with_len a n)
+pub below_among : (a n k : ℕ) → a ≤ k → k < a + n → IsAmong k (range_with_len a n)
 below_among a zero k le lt = absurd (omega (arith, le, lt))
 below_among a (suc n) k le lt = elim (cases_eq k a) [
   | inl same ↦ inl same

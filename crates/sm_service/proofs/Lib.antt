@@ -11,15 +11,31 @@ mod ServiceReached
 mod BindingsRead
 mod TablesOfService
 mod HttpRead
+mod HttpReady
 mod KeptErrors
 mod ShownMembers
 mod FilledServices
 mod ServedRoots
 mod ReferencesRead
-mod ErrorsNamed
-mod OnceJoined
-mod ServableIds
+mod OnceNamed
+mod OperationsNamed
+mod AgainPlaces
+mod OnceNumbers
+mod OperationsTold
+mod StartsTold
+mod ServedErrors
+mod NamesOfErrors
+mod OperationRowsTold
+mod FilledNames
+mod OperationBodies
+mod ErrorNames
+mod ErrorSides
+mod ErrorStatuses
+mod OperationsReady
+pub mod ErrorsNamed
+pub mod ServableIds
 mod ServableRows
+mod KnownServed
 mod SaidReferences
 mod ErrorsApart
 mod HeaderTokens
@@ -34,3 +50,12 @@ mod HttpServes
 mod HttpWays
 mod HttpTargets
 mod HttpBound
+mod OneTables
+mod OneBindings
+mod OneOperations
+mod OneServices
+mod CompiledServices
+mod ServiceOperations
+mod SomeBindings
+mod SomeOperations
+mod SomeServices

@@ -20,7 +20,7 @@ use Rattle.sm_compile.specs.declared.tabled.Tabled.{Tabled}
 use Rattle.sm_compile.specs.steps.Numbered.{numbering}
 use Rattle.sm_rules.specs.Ready.{IsOfService, Ready}
 use Rattle.sm_rules.specs.Words.{IsService}
-use Rattle.sm_accepted.proofs.ReadyGraphs.{sound_roots}
+use Rattle.sm_accepted.proofs.ReadyGraphs.{sound_ready}
 use Rattle.sm_service.specs.declared.refusal.ServiceRefusal.{ServiceRefusal}
 use Rattle.sm_service.specs.declared.refusal.ServiceRefusal.TheVariants.{NoService, Pattern, NoMemory}
 use Rattle.sm_service.specs.steps.BindingsTold.{AreBindingTexts}
@@ -43,8 +43,7 @@ module _ (g : Graph) (service : List ℕ) (is : IsService (maps_of g) service) (
   In = IsReachedFromSome (maps_of g) ids
 
   pub roots_sound : AreSoundRoots (maps_of g) ids
-  roots_sound =
-      sound_roots (maps_of g) service is ready ids (λ root among. let h = (are.all root).0 among in (h.1, h.0))
+  roots_sound root among = let h = (are.all root).0 among in (h.1, sound_ready (maps_of g) service is ready root h.0)
 
   -- the shapes of the table stand in it by their numbers in the graph
   one_numbering : (t : TableData) (n : Numbering) → IsCompiled (maps_of g) Of t n → Path Numbering n (numbering g shapes)

@@ -1,12 +1,12 @@
 -- The shapes with values among what a service leads to, by their numbers.
-use Rattle.std.proofs.Common.{◌≡◌, ℕ, ◌+◌, ◌<◌, suc, Bool, true, false, cond, List, [], ◌∷◌, ◌++◌, length, sym, ap, ◌∙◌, subst, arith}
+use Rattle.std.proofs.Common.{◌≡◌, ℕ, ◌<◌, Bool, List, length, sym, ap, ◌∙◌, subst, arith}
 use Rattle.std.specs.Prelude.{◌^◌}
 use Rattle.std.proofs.lemmas.List.{length-map}
 use Rattle.sm_model.specs.GraphRows.{ids_of, row_entry}
-use Rattle.sm_model.specs.GraphView.{AreShapeNumbers, IsShapeNumber, entries_of, maps_of}
+use Rattle.sm_model.specs.GraphView.{AreShapeNumbers, entries_of, maps_of}
 use Rattle.sm_model.specs.Reaching.{AreMarks, id_of_number}
 use Rattle.sm_model.specs.declared.graph.Graph.{Graph}
-use Rattle.sm_compile.specs.steps.Tabling.{is_tabled, tabled_below}
+use Rattle.sm_compile.specs.Tabling.{tabled_below}
 use Rattle.sm_compile.proofs.TabledShapes.{tabled_few, tabled_numbers_rise, tabled_rise, tabled_told}
 use Rattle.sm_rules.specs.Ready.{IsOfService}
 use Rattle.sm_service.specs.steps.ServiceTables.{AreValueShapes}
@@ -31,12 +31,3 @@ module _ (g : Graph) (s : ℕ) where
         rise = tabled_numbers_rise g marks (length (entries_of g));
         few = let le = tabled_few g marks (length (entries_of g)) in let few = few_entries in omega (arith, few, le);
       })
-
--- shapes with values put one after the other
-pub number_if : (g : Graph) (n : ℕ) (b : Bool) → IsShapeNumber g n → AreShapeNumbers g (cond b (n ∷ []) [])
-number_if g n true lt = (lt, tt)
-number_if g n false lt = tt
-
-pub below_more : (g : Graph) (marks : List Bool) (n : ℕ)
-    → tabled_below g marks (n + 1) ≡ tabled_below g marks n ++ cond (is_tabled g marks n) (n ∷ []) []
-below_more g marks n = let next : n + 1 ≡ suc n = omega arith in ap (tabled_below g marks) next

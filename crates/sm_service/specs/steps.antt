@@ -6,3 +6,5 @@ pub mod WalkStarts
 pub mod WireSaid
 pub mod BindingsTold
 pub mod ServiceTables
+pub mod OperationRows
+pub mod ServicesMade

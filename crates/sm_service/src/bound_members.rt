@@ -9,8 +9,6 @@ ghost use Rattle.sm_model.specs.Reaching.{id_of_number};
 ghost use Rattle.sm_shapes.specs.BindingPuts.{bindings_view};
 ghost use Rattle.sm_shapes.specs.TableView.{binding_data};
 ghost use Rattle.sm_compile.specs.Compiled.{EachSays, members_under};
-ghost use Rattle.sm_compile.specs.Kinds as kinds;
-ghost use Rattle.sm_compile.specs.Looked.{listed_under};
 ghost use Rattle.sm_compile.specs.Sound.{trait_of};
 ghost use Rattle.sm_compile.specs.TraitIds.{binding_ids};
 ghost use Rattle.sm_compile.specs.TraitNodes.{text_of};
@@ -18,9 +16,9 @@ ghost use Rattle.sm_http_traits.specs.Bindings.{carries_binding};
 ghost use Rattle.sm_service.specs.steps.BindingsTold.{SeesMedia, TellsBinding, TellsMedia, TellsShapeMedia};
 
 use sm_compile::trait_ids::{HTTP_HEADER, HTTP_PREFIX_HEADERS, HTTP_QUERY, MEDIA_TYPE};
-use sm_compile::{kind_of, members_of, target_of, text_in_trait, trait_node};
+use sm_compile::{target_of, text_in_trait, trait_node, value_members};
 use sm_http_traits::bindings::{BindingKind, carries_binding};
-use sm_model::{Graph, Kind};
+use sm_model::Graph;
 use sm_shapes::tables::Binding;
 use sm_tree::{NoMemory, Text, Tree};
 use std::alloc::Global;
@@ -41,33 +39,6 @@ pub(crate) fn member_numbers(
         members.extend_from_slice(value_members(graph, *shape))?;
     }
     Ok(members)
-}
-
-// Those of one shape.
-fn value_members(graph: &Graph, shape: u32) -> &[u32]
-    requires { IsShapeNumber graph.now shape }
-    ensures ids { map (id_of_number graph.now) result.now ≡ members_under (maps_of graph.now) (id_of_number graph.now shape) }
-    ensures numbers { AreShapeNumbers graph.now result.now }
-{
-    match kind_of(graph, shape) {
-        Some(kind) => members_of_kind(graph, shape, kind),
-        None => &[],
-    }
-}
-
-fn members_of_kind(graph: &Graph, shape: u32, kind: Kind) -> &[u32]
-    requires { IsShapeNumber graph.now shape }
-    ensures ids { map (id_of_number graph.now) result.now
-        ≡ kinds.members_of_kind kind (listed_under (maps_of graph.now) (id_of_number graph.now shape)) }
-    ensures numbers { AreShapeNumbers graph.now result.now }
-{
-    match kind {
-        Kind::List => members_of(graph, shape),
-        Kind::Map => members_of(graph, shape),
-        Kind::Structure => members_of(graph, shape),
-        Kind::Union => members_of(graph, shape),
-        _ => &[],
-    }
 }
 
 /// The bindings of these members.

@@ -5,21 +5,26 @@
 mod bound_members;
 mod bound_table;
 mod closure;
+mod compiling;
 mod error;
 mod error_order;
 mod error_rows;
 mod errors;
 mod http_rule;
+mod known;
 pub mod laws;
 mod operation;
+mod operation_errors;
+mod operation_numbers;
+mod operations;
 mod references;
 mod refusal;
 mod served;
 mod service;
 mod serving;
 mod table;
-mod value_shapes;
 
+pub use compiling::compile;
 pub use error::ErrorShape;
 pub use errors::Errors;
 pub use operation::{HttpRule, Operation};

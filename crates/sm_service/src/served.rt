@@ -1,6 +1,8 @@
 // Whether an operation is served. Operations that share a shape may share the way from it to one that isn't.
 ghost use Rattle.std.specs.Prelude.{◌≡◌, IfOk};
+ghost use Rattle.sm_shapes.specs.SharedView.{shared_list};
 ghost use Rattle.sm_service.specs.PathView.{member_path_text};
+ghost use Rattle.sm_service.specs.ServiceView.{served_said};
 
 use sm_tree::{NoMemory, Text};
 use std::alloc::Global;
@@ -40,6 +42,53 @@ impl MemberPath {
             Err(_) => Err(NoMemory),
         }
     }
+
+    /// Its text.
+    pub fn print(&self, alloc: Global) -> Result<Text, NoMemory>
+        ensures { IfOk result (λ text. text ≡ self.now) }
+    {
+        let way = shared_text(&self.way);
+        let mut text = String::from_str(alloc, self.start.as_str())?;
+        if !way.is_empty() {
+            text.push_str("/")?;
+            text.push_str(way)?;
+        }
+        Ok(Text::new(text))
+    }
+
+    // The same path, which shares the way.
+    fn share(&self, alloc: Global) -> Result<Self, NoMemory>
+        ensures { IfOk result (λ path. path ≡ self.now) }
+    {
+        let start = Text::copy(alloc, self.start.as_str())?;
+        match shared_way(&self.way) {
+            Ok(way) => Ok(MemberPath { start, way }),
+            Err(refusal) => Err(refusal),
+        }
+    }
+}
+
+// A text that is shared, or nothing.
+fn shared_text(way: &Option<Rc<Text>>) -> &str
+    ensures { result.now ≡ shared_list way.now }
+{
+    match way {
+        None => "",
+        Some(text) => text.as_ref().as_str(),
+    }
+}
+
+// The same way.
+fn shared_way(way: &Option<Rc<Text>>) -> Result<Option<Rc<Text>>, NoMemory>
+    ensures { IfOk result (λ same. shared_list same ≡ shared_list way.now) }
+{
+    match way {
+        None => Ok(None),
+        Some(way) => match way.clone() {
+            Ok(way) => Ok(Some(way)),
+            Err(_) => Err(NoMemory),
+        },
+    }
 }
 
 /// Whether values of an operation's input, output and errors can be carried.
@@ -49,4 +98,19 @@ pub enum OperationServed {
     Yes,
     /// The first member path that leads to a shape whose values can't: by the input, then the output, then the errors in order.
     Unserved(MemberPath),
+}
+
+impl OperationServed {
+    /// The same answer; a path shares its way.
+    pub(crate) fn share(&self, alloc: Global) -> Result<Self, NoMemory>
+        ensures { IfOk result (λ same. served_said same ≡ served_said self.now) }
+    {
+        match self {
+            OperationServed::Yes => Ok(OperationServed::Yes),
+            OperationServed::Unserved(path) => match path.share(alloc) {
+                Ok(path) => Ok(OperationServed::Unserved(path)),
+                Err(refusal) => Err(refusal),
+            },
+        }
+    }
 }

@@ -9,8 +9,7 @@ ghost use Rattle.sm_service.specs.steps.ServiceTables.{AreValueShapes, TablesBou
 
 use crate::bound_table::bound_table;
 use crate::refusal::ServiceRefusal;
-use crate::value_shapes::value_shapes;
-use sm_compile::{CompileRefusal, Tabled, compile_roots};
+use sm_compile::{CompileRefusal, Tabled, compile_roots, tabled_shapes};
 use sm_model::Graph;
 use sm_shapes::Patterns;
 use sm_shapes::tables::Table;
@@ -33,7 +32,7 @@ pub(crate) fn service_table<P: Patterns>(
         (seen_store (P.added patterns.old) (P.refused patterns.old) (P.refusals patterns.old))
         (seen_store (P.added patterns.new) (P.refused patterns.new) (P.refusals patterns.new)) result }
 {
-    let shapes = match value_shapes(alloc, graph, marks) {
+    let shapes = match tabled_shapes(alloc, graph, marks) {
         Ok(shapes) => shapes,
         Err(_) => return Err(ServiceRefusal::NoMemory),
     };
