@@ -137,6 +137,16 @@ def idl(model):
     return ''.join(out)
 
 
+def big(n, sh):
+    """The structure Big, which reaches n structures."""
+    per = max(1, n // 100)
+    for b in range(100):
+        sh['Mid%02d' % b] = structure_of({'m%d' % k: member_of('Low%05d' % (b * per + k)) for k in range(per)})
+    for x in range(per * 100):
+        sh['Low%05d' % x] = structure_of({'a': member_of(S)})
+    sh['Big'] = structure_of({'m%02d' % b: member_of('Mid%02d' % b) for b in range(100)})
+
+
 def good(parts, doc):
     """A service of 100 operations with http, 100 more by 50 resources, and `parts` parts of ten data shapes each, all in its closure."""
     sh = {}
