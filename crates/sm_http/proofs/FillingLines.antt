@@ -1,5 +1,5 @@
 -- Fills one after the other.
-use Rattle.std.proofs.Common.{◌≡◌, ℕ, ◌+◌, ◌<◌, ◌≤◌, List, [], ◌++◌, length, refl, sym, ap, subst, ◌∙◌, arith, append_assoc, append-nil}
+use Rattle.std.proofs.Common.{◌≡◌, ℕ, ◌+◌, ◌<◌, ◌≤◌, List, ◌++◌, length, refl, sym, ap, subst, ◌∙◌, arith, append_assoc}
 use Rattle.std.proofs.Common.{Option, Some, None, Ok, Err}
 use Rattle.std.specs.Prelude.{Result}
 use Rattle.std.proofs.lemmas.List.{length-append}
@@ -19,10 +19,7 @@ use Rattle.sm_http.specs.steps.Holding.{Fills}
 use Rattle.sm_http.specs.steps.Looking.{FindsWhole, LooksAHead, HasTaken, FillsOn}
 use Rattle.sm_http.proofs.ReadingHeads.{whole_ahead}
 use Rattle.sm_http.proofs.ReadingMessages.{begins_within}
-use Rattle.sm_io.proofs.Told.{consumes_both, consumes_none, loses_kept}
-
-pub taken_none : (l : Option (List ℕ)) (h : List ℕ) → HasTaken l l h h 0
-taken_none l h = record { taken = []; consumes = consumes_none l; now_is = sym (append-nil h); long = refl }
+use Rattle.sm_io.proofs.Told.{consumes_both, loses_kept}
 
 pub taken_more : (l m r : Option (List ℕ)) (h i k : List ℕ) (n count : ℕ) → HasTaken l m h i n → Fills m r i k (Ok count)
     → HasTaken l r h k (n + count)
@@ -64,14 +61,6 @@ still_taken l m r h i k n x fills = (
     kept (Some l) (Some m) None taken x y = absurd y
     kept (Some l) (Some m) (Some r) taken x y = x ∙ ap (λ s. taken ++ s) (sym y)
 
-pub taken_failed : (l m r : Option (List ℕ)) (h i k : List ℕ) (n : ℕ) → HasTaken l m h i n → Fills m r i k (Err Failed)
-    → FillsOn l r h k (Err Failed)
-taken_failed l m r h i k n x fills = still_taken l m r h i k n x fills
-
-pub taken_short : (l m r : Option (List ℕ)) (h i k : List ℕ) (n : ℕ) → HasTaken l m h i n → Fills m r i k (Err NoMemory)
-    → FillsOn l r h k (Err NoMemory)
-taken_short l m r h i k n x fills = still_taken l m r h i k n x fills
-
 -- a fill only takes a prefix
 pub loses_filled : (l r : Option (List ℕ)) (h k : List ℕ) (result : Result ℕ Unfilled) → Fills l r h k result → LosesPrefix l r
 loses_filled l r h k (Ok count) fills = (fills.0, fills.1)
@@ -82,10 +71,6 @@ pub loses_filled_on : (l r : Option (List ℕ)) (h k : List ℕ) (result : Resul
 loses_filled_on l r h k (Ok count) fills = (fills.0, fills.1)
 loses_filled_on l r h k (Err Failed) fills = (fills.1.taken, fills.1.consumes)
 loses_filled_on l r h k (Err NoMemory) fills = (fills.1.taken, fills.1.consumes)
-
-pub count_within : (l r : Option (List ℕ)) (h k : List ℕ) (n : ℕ) → HasTaken l r h k n → length h ≤ length k
-count_within l r h k n x =
-    let whole = ap length x.now_is ∙ length-append h x.taken in omega arith
 
 -- ---- what is ahead, held and then left
 

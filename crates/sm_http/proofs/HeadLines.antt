@@ -12,11 +12,8 @@ use Rattle.httparse.specs.Grammar.{print_section, print_reason, RequestHead, Rea
 use Rattle.httparse.proofs.GrammarLemmas.{print_request-append, print_response-append}
 use Rattle.sm_http.specs.declared.message.MessageSide.{MessageSide}
 use Rattle.sm_http.specs.declared.message.MessageSide.TheVariants.{Request as of_requests, Response as of_responses}
-use Rattle.sm_http.specs.Heads.{HeadText, ReadsHead, HasNoHead, NeverHasHead, is_line_byte, has_line_feed, has_first_line}
+use Rattle.sm_http.specs.Heads.{HasNoHead, NeverHasHead, is_line_byte, has_line_feed, has_first_line}
 use Rattle.sm_http.specs.steps.Finding.{MayBecomeHead}
-
-is_lf : ℕ → Bool
-is_lf b = b == line_feed
 
 -- ---- where an LF stands
 
@@ -78,10 +75,6 @@ response_line bytes rest h reads =
     ∙ behind_blanks h.blank (print_version h.minor ++ 32 ∷ (h.digits ++ (print_reason h.reason ++ (print_end h.line_end ++ behind))))
     ∙ lf_behind (codes "TTP/1." ++ (48 + h.minor) ∷ [])
     (32 ∷ (h.digits ++ (print_reason h.reason ++ (print_end h.line_end ++ behind)))) code
-
-pub head_line : (side : MessageSide) (bytes rest : List ℕ) (text : HeadText) → ReadsHead side bytes text rest → has_first_line bytes ≡ true
-head_line of_requests bytes rest text x = request_line bytes rest x.0 x.1
-head_line of_responses bytes rest text x = response_line bytes rest x.0 x.1
 
 -- where the first line hasn't ended there is no head
 pub no_line_no_head : (side : MessageSide) (bytes : List ℕ) → has_first_line bytes ≡ false → HasNoHead side bytes

@@ -19,9 +19,8 @@ use Rattle.sm_http.specs.steps.Trailers.{ReadsTrailers, SeesTrailers}
 use Rattle.sm_http.specs.steps.Places.{Steps}
 use Rattle.sm_http.specs.steps.Passing.{lines_before, SeesPlace}
 use Rattle.sm_http.proofs.Cuts.{same_cut}
-use Rattle.sm_http.proofs.LinesSeen.{same_first, same_rest}
 use Rattle.sm_http.proofs.BodySteps.{end_step, size_step}
-use Rattle.sm_http.proofs.BodyEnds.{data_open, end_refused, end_open, size_refused, too_long, size_open, last_step, last_refused, last_open}
+use Rattle.sm_http.proofs.BodyEnds.{data_open, end_open, size_refused, too_long, size_open, last_step, last_refused, last_open}
 
 pub front_is : (bytes front : List ℕ) (len : ℕ) → len ≤ length bytes → bytes ≡ front ++ drop len bytes → take len bytes ≡ front
 front_is bytes front len inside e =
@@ -56,25 +55,11 @@ pub end_none : (total : ℕ) (bytes : List ℕ) → length bytes ≡ 0 → SeesP
 end_none total [] none = (omega arith, data_open 0 total)
 end_none total (b ∷ bytes) none = absurd (omega arith)
 
-pub end_other : (total : ℕ) (bytes : List ℕ) → 0 < length bytes → (get_or bytes 0 0 ≡ 13 → ⊥)
-    → SeesPlace (Data 0 total) bytes (Err BadChunk)
-end_other total [] some other more = absurd (omega arith)
-end_other total (b ∷ bytes) some other more =
-    end_refused total (b ∷ (bytes ++ more)) (λ m rest e. other (same_first b 13 ((bytes ++ more) ++ m) (10 ∷ rest) e))
-
 pub end_return : (total : ℕ) (bytes : List ℕ) → length bytes ≡ 1 → get_or bytes 0 0 ≡ 13 → SeesPlace (Data 0 total) bytes (Ok Part)
 end_return total [] one first = absurd (omega arith)
 end_return total (b ∷ []) one first =
     (omega arith, subst (λ c. BodyFramed (Data 0 total) (c ∷ []) (body_refused Ended)) (sym first) (end_open total))
 end_return total (b ∷ c ∷ bytes) one first = absurd (omega arith)
-
-pub end_no_feed : (total : ℕ) (bytes : List ℕ) → 1 < length bytes → (get_or bytes 1 0 ≡ 10 → ⊥)
-    → SeesPlace (Data 0 total) bytes (Err BadChunk)
-end_no_feed total [] some other more = absurd (omega arith)
-end_no_feed total (b ∷ []) some other more = absurd (omega arith)
-end_no_feed total (b ∷ c ∷ bytes) some other more =
-    end_refused total (b ∷ c ∷ (bytes ++ more)) (λ m rest e.
-    other (same_first c 10 ((bytes ++ more) ++ m) rest (same_rest b 13 (c ∷ ((bytes ++ more) ++ m)) (10 ∷ rest) e)))
 
 pub end_whole : (total : ℕ) (bytes : List ℕ) → total ≤ message_body_limit → 1 < length bytes → get_or bytes 0 0 ≡ 13 → get_or bytes 1 0 ≡ 10
     → SeesPlace (Data 0 total) bytes (Ok (Next 2 (Size total)))

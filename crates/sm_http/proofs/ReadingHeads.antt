@@ -85,13 +85,6 @@ pub ahead_same : (l : Option (List ℕ)) (h : List ℕ) → Keeps (prepend_known
 ahead_same None h = tt
 ahead_same (Some l) h = refl
 
--- a fact of the bytes ahead, by what is held and what is left
-pub by_ahead : (a l : Option (List ℕ)) (h k : List ℕ) (P : List ℕ → List ℕ → Type 0) → Keeps a (prepend_known h l)
-    → ((more : List ℕ) → P (h ++ more) (k ++ more)) → IfAhead a (prepend_known k l) P
-by_ahead None l h k P kept p = tt
-by_ahead (Some a) None h k P kept p = absurd kept
-by_ahead (Some a) (Some l) h k P kept p = subst (λ bs. P bs (k ++ l)) kept (p l)
-
 pub by_some : (a l : Option (List ℕ)) (h : List ℕ) (P : List ℕ → Type 0) → Keeps a (prepend_known h l)
     → ((more : List ℕ) → P (h ++ more)) → IfSome a P
 by_some None l h P kept p = tt
@@ -221,12 +214,6 @@ some_end (Some a) (Some l) (Some r) h k P kept fills p =
 
 pub same_held : (l r : Option (List ℕ)) (h k : List ℕ) → Fills l r h k (Ok 0) → k ≡ h
 same_held l r h k fills = fills.2 ∙ ap (λ x. h ++ x) (empty fills.0 fills.3) ∙ append-nil h
-
-pub none_ahead : (side : MessageSide) (a l r : Option (List ℕ)) (h k : List ℕ) → Keeps a (prepend_known h l) → Fills l r h k (Ok 0)
-    → length k ≡ 0 → ReadsAHead side a (prepend_known k r) r (Ok None)
-none_ahead side a l r h k kept fills none =
-    let held = empty k none in
-    at_end a l r h k (λ bytes rest. HeadFramed side bytes no_head × (rest ≡ [])) kept fills (sym (same_held l r h k fills) ∙ held, held)
 
 pub ended_ahead : (side : MessageSide) (a n l r : Option (List ℕ)) (h k : List ℕ) → Keeps a (prepend_known h l) → Fills l r h k (Ok 0)
     → 0 < length k → length h < head_limit → SeesHead side h (Ok Part) → ReadsAHead side a n r (Err Ended)

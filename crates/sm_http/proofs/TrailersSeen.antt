@@ -87,23 +87,6 @@ part_past used n bytes sees some past more rest x =
           omega arith
     ]
 
-pub whole_last : (used : ℕ) (bytes : List ℕ) → SeesLine bytes (line.Whole 0) → SeesTrailer used bytes trailer.Last
-whole_last used bytes sees = (sees.0, sees.1.reads)
-
-pub whole_trailer : (used n : ℕ) (bytes : List ℕ) → SeesLine bytes (line.Whole n) → 0 < n → used + n + 2 ≤ trailer_limit
-    → SeesTrailer used bytes (trailer.Line (n + 2))
-whole_trailer used n bytes sees some within =
-    let len = length-take-le n bytes (omega (arith, sees.0)) in
-    let parts = length-append (take n bytes) crlf_bytes in
-    record {
-      line = take n bytes;
-      is_trailer = record { some = omega arith; bytes = sees.1.passes };
-      long = omega arith;
-      within = omega arith;
-      inside = sees.0;
-      reads = sees.1.reads ∙ sym (append_assoc (take n bytes) crlf_bytes (drop (n + 2) bytes));
-    }
-
 -- what hasn't ended: no line end stands in it
 part_none : (used : ℕ) (bytes text : List ℕ) → IsLinePart bytes text → HasNoTrailers used bytes
 part_none used bytes text part rest x =
@@ -199,9 +182,6 @@ trailer_back used t x rest (u ∷ us) is all within e =
       within = omega arith;
       reads = let behind = same.1 in cc;
     }
-
-pub same_begin : (bytes : List ℕ) → SameTrailers 0 bytes
-same_begin bytes = record { on = λ more rest x. x; back = λ more rest x. x }
 
 -- the bytes from a place on begin with a trailer line
 next_bytes : (at len : ℕ) (bytes line more : List ℕ) → drop at bytes ≡ print_trailer line ++ drop len (drop at bytes)

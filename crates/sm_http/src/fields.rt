@@ -6,8 +6,8 @@ ghost use Rattle.sm_http.specs.FieldValues.{values_named, first_value, only_valu
 
 use crate::message::{Field, FieldList};
 
-/// Whether a text is the other, without regard to the case of ASCII letters.
-pub(crate) fn folds_to(text: &[u8], name: &[u8]) -> bool
+/// Whether a text is the other, without regard to the case of ASCII letters. No memory.
+pub fn folds_to(text: &[u8], name: &[u8]) -> bool
     ensures { result ≡ str_eq_ignore_ascii_case text.now name.now }
 {
     text.eq_ignore_ascii_case(name)

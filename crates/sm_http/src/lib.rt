@@ -24,9 +24,11 @@ mod trailers;
 mod write;
 
 pub use connection::{for_head, says_close, with_close};
+pub use fields::folds_to;
 pub use held::Held;
 pub use message::{BodyLeft, Field, FieldList, Head, Message, MessageSide, Protocol, Start};
 pub use piece::read_piece;
 pub use read::{read_head, read_message};
 pub use refusal::HttpRefusal;
+pub use tokens::{trim, trim_front};
 pub use write::{message_len, write_message};

@@ -23,7 +23,8 @@ impl ByteClass for ElementBytes {
     }
 }
 
-fn trim_front(mut text: &[u8]) -> &[u8]
+/// A text from its first byte on that is no space and no tab. No memory.
+pub fn trim_front(mut text: &[u8]) -> &[u8]
     ensures { result.now ≡ skip_ows text.now }
 {
     while let [first, rest @ ..] = text
@@ -45,8 +46,8 @@ fn trim_back(mut text: &[u8]) -> &[u8]
     text
 }
 
-// A text without the spaces and tabs at its ends.
-fn trim(text: &[u8]) -> &[u8]
+/// A text without the spaces and tabs at its ends (RFC 9110, section 5.6.3). No memory.
+pub fn trim(text: &[u8]) -> &[u8]
     ensures { result.now ≡ trim_ows text.now }
 {
     trim_back(trim_front(text))
