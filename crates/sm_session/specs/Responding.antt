@@ -1,0 +1,47 @@
+-- What a responder does: it reads a request by pieces, and says what it comes to; and so the back's answer to a request.
+use Rattle.std.specs.Prelude.{◌≡◌, ℕ, Bool, true, false, List, [], ◌∷◌, ◌++◌, Option, Some, None, Result, Ok, Err}
+use Rattle.sm_http.specs.declared.message.Head.{Head}
+use Rattle.sm_http.specs.declared.message.Message.{Message}
+use Rattle.sm_bytes.specs.declared.no_memory.NoMemory.{NoMemory as OutOfMemory}
+use Rattle.sm_session.specs.declared.responder.Turn.{Turn}
+use Rattle.sm_session.specs.declared.responder.Turn.TheVariants.{Answered, Asking as AskingBack}
+use Rattle.sm_session.specs.Turns.{Asking, answered, asks, Replying}
+
+-- a message that is read: its head, whether its body is empty, and of the back's answer the request that it answers
+pub record Begun : Type 0 where
+  pub request : Option Message
+  pub head : Head
+  pub empty : Bool
+
+abbrev pub is_empty : List ℕ → Bool
+is_empty [] = true
+is_empty (b ∷ bytes) = false
+
+-- a whole message was begun so
+abbrev pub begun_for : Option Message → Message → Begun
+begun_for request said = record { request = request; head = said.head; empty = is_empty said.body }
+
+-- which message, and how much of its body, is being read
+abbrev pub Reads : Type 1
+Reads = Begun → List ℕ → Type 0
+
+-- a piece more was read, behind whatever was read
+abbrev pub ReadsOn : Reads → Reads → List ℕ → Type 0
+ReadsOn before now piece = (begun : Begun) (bytes : List ℕ) → before begun bytes → now begun (bytes ++ piece)
+
+-- the request that was read comes to this: the text that the back is asked was appended, or there is an answer
+abbrev pub ComesTo : {C : Type 0} → Asking → (C → Message → Type 0) → Message → List ℕ → List ℕ → Turn C → Type 0
+ComesTo asking calls m before now (Answered answer) = asking m (answered answer)
+ComesTo asking calls m before now (AskingBack call) =
+    (text : List ℕ) × asking m (asks text) × (now ≡ before ++ text) × calls call m
+
+-- a request whose whole body was read
+abbrev pub FinishesRequest : {C : Type 0} → Asking → (C → Message → Type 0) → Reads → List ℕ → List ℕ → Result (Turn C) OutOfMemory → Type 0
+FinishesRequest asking calls reads before now (Ok turn) =
+    (m : Message) → reads (begun_for None m) m.body → ComesTo asking calls m before now turn
+FinishesRequest asking calls reads before now (Err refusal) = Unit {0}
+
+-- the back's answer whose whole body was read
+abbrev pub FinishesReply : Replying → Reads → Result Message OutOfMemory → Type 0
+FinishesReply replying reads (Ok answer) = (m said : Message) → reads (begun_for (Some m) said) said.body → replying m said answer
+FinishesReply replying reads (Err refusal) = Unit {0}

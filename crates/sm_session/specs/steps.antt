@@ -1,0 +1,4 @@
+pub mod Played
+pub mod Feeding
+pub mod Taking
+pub mod Turning
