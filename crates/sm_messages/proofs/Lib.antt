@@ -1,0 +1,10 @@
+pub mod Contents
+pub mod HeadsJudged
+pub mod OneMessage
+pub mod SomeMessage
+pub mod OneReplies
+pub mod CrossedMessages
+pub mod OperationsNamed
+pub mod TreeBodies
+pub mod ErrorsTold
+pub mod ObjectBodies

@@ -1,0 +1,14 @@
+pub mod Goals
+pub mod Names
+pub mod Heads
+pub mod MessageForm
+pub mod HeadAnswers
+pub mod Messages
+pub mod MessageAnswers
+pub mod Answers
+pub mod Judging
+pub mod IsForm
+pub mod Laws
+pub mod Crossings
+pub mod WrittenHeads
+pub mod TreeBodies
