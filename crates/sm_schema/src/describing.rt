@@ -1,0 +1,141 @@
+// The schema of a shape: the definitions of all places to which it leads, and a reference to the first.
+ghost use Rattle.std.specs.Prelude.{◌≡◌, ◌<◌, [], IfOk, OnOk};
+ghost use Rattle.sm_tree.specs.Node.{Node, no_members};
+ghost use Rattle.sm_tree.specs.Same.{IsNode};
+ghost use Rattle.sm_tree.specs.View.{members_view, node_of};
+ghost use Rattle.sm_shapes.specs.InOrder.{Shaped, DefaultsPass};
+ghost use Rattle.sm_shapes.specs.Places.{root_place};
+ghost use Rattle.sm_shapes.specs.TableData.{shape_count};
+ghost use Rattle.sm_shapes.specs.TableView.{table_data};
+ghost use Rattle.sm_codec.specs.Codec.{InTable};
+ghost use Rattle.sm_codec.specs.PlaceView.{place_of};
+ghost use Rattle.sm_codec.specs.Readings.{faults};
+ghost use Rattle.sm_schema.specs.Definitions.{reference_text};
+ghost use Rattle.sm_schema.specs.Described as the;
+ghost use Rattle.sm_schema.specs.SchemaLaws.{AllTold, HasNoNumber, json_codec};
+ghost use Rattle.sm_schema.specs.Valid.{Valid};
+ghost use Rattle.sm_schema.specs.steps.Joined.{joined};
+ghost use Rattle.sm_schema.specs.steps.Numbered.{AreNumbered, listing_of, places_in};
+
+use crate::aggregates::{list_definition, map_definition, structure_definition, union_definition};
+use crate::definitions::{
+    enum_definition, number_definition, number_enum_definition, text_definition, time_type,
+    type_alone,
+};
+use crate::laws::{spelled_is_valid, valid_is_spelled};
+use crate::listing::{DefinedPlaces, defined_places};
+use crate::nodes::{object_of, put, put_text};
+use sm_codec::ValuePlace;
+use sm_shapes::Patterns;
+use sm_shapes::kinds::ShapeKind;
+use sm_shapes::tables::Table;
+use sm_time::Format;
+use sm_tree::{NoMemory, Text, Tree};
+use std::alloc::Global;
+
+// The definition of a place.
+fn definition(
+    alloc: Global,
+    table: &Table,
+    all: &DefinedPlaces,
+    json_names: bool,
+    place: ValuePlace,
+) -> Result<Tree, NoMemory>
+    requires shaped { Shaped (table_data table.now) }
+    requires inside { InTable (table_data table.now) (place_of place) }
+    requires numbered { AreNumbered (table_data table.now) all.now }
+    ensures { IfOk result (λ tree. node_of tree ≡ the.definition (listing_of (table_data table.now) json_names all.now) (place_of place)) }
+{
+    let held = place.constraints(table);
+    match place.kind(table) {
+        ShapeKind::Blob => type_alone(alloc, "string"),
+        ShapeKind::Boolean => type_alone(alloc, "boolean"),
+        ShapeKind::Text => text_definition(alloc, table, held),
+        ShapeKind::Enum => enum_definition(alloc, table, held),
+        ShapeKind::Byte => number_definition(alloc, -128, 127, held),
+        ShapeKind::Short => number_definition(alloc, -32_768, 32_767, held),
+        ShapeKind::Integer => number_definition(alloc, -2_147_483_648, 2_147_483_647, held),
+        ShapeKind::IntEnum => number_enum_definition(alloc, -2_147_483_648, 2_147_483_647, held),
+        ShapeKind::Long => number_definition(alloc, i64::MIN, i64::MAX, held),
+        ShapeKind::Timestamp => type_alone(
+            alloc,
+            time_type(place.format(table).unwrap_or(Format::EpochSeconds)),
+        ),
+        ShapeKind::List => list_definition(alloc, table, all, place),
+        ShapeKind::Map => map_definition(alloc, table, all, place),
+        ShapeKind::Structure => structure_definition(alloc, table, all, json_names, place),
+        ShapeKind::Union => union_definition(alloc, table, all, json_names, place),
+        ShapeKind::LeftOut => Ok(Tree::Bool(false)),
+    }
+}
+
+// All definitions, each under its name.
+fn definitions(
+    alloc: Global,
+    table: &Table,
+    all: &DefinedPlaces,
+    json_names: bool,
+) -> Result<Vec<(Text, Tree)>, NoMemory>
+    requires shaped { Shaped (table_data table.now) }
+    requires numbered { AreNumbered (table_data table.now) all.now }
+    ensures { IfOk result (λ pairs. joined (members_view pairs.items) no_members
+        ≡ the.definitions (listing_of (table_data table.now) json_names all.now) 0 (places_in all.now)) }
+{
+    let mut pairs = Vec::new(alloc);
+    for number in 0..all.places.len() {
+        let tree = definition(alloc, table, all, json_names, all.places[number])?;
+        let name = format!(in alloc; "d{number}")?;
+        put(alloc, &mut pairs, name.as_str(), tree)?;
+    }
+    Ok(pairs)
+}
+
+fn first_reference() -> &'static str
+    ensures { result.now ≡ reference_text 0 }
+{
+    "#/$defs/d0"
+}
+
+/// The schema of the shape with this number (JSON Schema 2020-12), where members stand under their names or under their JSON names. The
+/// store isn't asked: its type's test is the one by which patterns find texts. `NoMemory` where the allocator refuses the memory for it.
+/// A tree that has no fault for the shape is accepted by the schema; and one that the schema accepts has no fault, where the schema can say
+/// all that the shape asks for.
+pub fn schema<P: Patterns>(
+    alloc: Global,
+    table: &Table,
+    shape: u32,
+    json_names: bool,
+    _patterns: &P,
+) -> Result<Tree, NoMemory>
+    requires shaped { Shaped (table_data table.now) }
+    requires shape { shape < shape_count (table_data table.now) }
+    ensures schema { IfOk result (λ tree. the.IsSchema (table_data table.now) json_names shape (node_of tree)) }
+    ensures spelled { IfOk result (λ tree. (n : Node) → DefaultsPass (table_data table.now) P.test → IsNode n
+        → faults (json_codec (table_data table.now) json_names P.test) n (root_place shape) ≡ [] → Valid P.test (node_of tree) n) }
+    ensures valid { IfOk result (λ tree. (n : Node) → AllTold (table_data table.now) (root_place shape) → IsNode n → HasNoNumber n
+        → Valid P.test (node_of tree) n → faults (json_codec (table_data table.now) json_names P.test) n (root_place shape) ≡ []) }
+{
+    spelled_is_valid();
+    valid_is_spelled();
+    let tree = schema_of(alloc, table, shape, json_names)?;
+    Ok(tree)
+}
+
+fn schema_of(alloc: Global, table: &Table, shape: u32, json_names: bool) -> Result<Tree, NoMemory>
+    requires shaped { Shaped (table_data table.now) }
+    requires shape { shape < shape_count (table_data table.now) }
+    ensures { IfOk result (λ tree. the.IsSchema (table_data table.now) json_names shape (node_of tree)) }
+{
+    let all = defined_places(alloc, table, shape)?;
+    let definitions = definitions(alloc, table, &all, json_names)?;
+    let mut pairs = Vec::new(alloc);
+    put_text(
+        alloc,
+        &mut pairs,
+        "$schema",
+        "https://json-schema.org/draft/2020-12/schema",
+    )?;
+    put_text(alloc, &mut pairs, "$ref", first_reference())?;
+    put(alloc, &mut pairs, "$defs", object_of(definitions))?;
+    Ok(object_of(pairs))
+}

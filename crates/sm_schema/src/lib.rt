@@ -1,0 +1,12 @@
+// JSON Schema of shapes: which trees a schema accepts, the schema of a shape of a table, and that it accepts what spells the
+// shape's values.
+#![tactic(auto)]
+
+mod aggregates;
+mod definitions;
+mod describing;
+pub mod laws;
+mod listing;
+mod nodes;
+
+pub use describing::schema;
