@@ -198,7 +198,7 @@ module _ (c : Codec) (p : Place) where
   absent_beside x n ps (k ∷ ks) none h =
       (subst NoneOrNull (sym (named_other (wire_name c p k) x n ps (λ e. none.0 (sym e)))) h.0, h.1, absent_beside x n ps ks none.1 h.2)
 
-  fields_beside : (x : List ℕ) (n : Node) (ks : List ℕ) (fs : FieldVals) (ps : List (List ℕ × Node)) → NoneIs x (map (wire_name c p) ks)
+  pub fields_beside : (x : List ℕ) (n : Node) (ks : List ℕ) (fs : FieldVals) (ps : List (List ℕ × Node)) → NoneIs x (map (wire_name c p) ks)
       → SpelledFields c p ks fs ps → SpelledFields c p ks fs ((x, n) ∷ ps)
   fields_beside x n ks no_fields ps none h = absent_beside x n ps ks none h
   fields_beside x n ks (field k v fs) ps none h =

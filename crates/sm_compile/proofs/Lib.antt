@@ -28,7 +28,7 @@ mod MemberHomes
 mod RowSearch
 mod Blocks
 mod ReadyRows
-mod OrderedMembers
+pub mod OrderedMembers
 mod RowsPut
 mod ValuesShared
 mod MemberNames

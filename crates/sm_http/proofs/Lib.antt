@@ -22,10 +22,10 @@ mod BodySteps
 mod BodyEnds
 mod PlacesSeen
 mod ReadingPieces
-mod ReadingMessages
+pub mod ReadingMessages
 mod FillingLines
 mod Phrases
-mod Printed
+pub mod Printed
 mod FieldLists
 mod ListTokens
 mod ClosePlaced

@@ -49,12 +49,12 @@ begins_within text left e is =
 
 -- ---- a head alone
 
-head_word : (side : MessageSide) (a : Option (List ℕ)) (why : HttpRefusal) → IfSome a (λ bytes. HeadFramed side bytes (head_refused why))
+pub head_word : (side : MessageSide) (a : Option (List ℕ)) (why : HttpRefusal) → IfSome a (λ bytes. HeadFramed side bytes (head_refused why))
     → IfSome a (λ bytes. Framed side bytes (message_refused why))
 head_word side None why x = tt
 head_word side (Some a) why x = inl x
 
-open_head : (side : MessageSide) (taken : List ℕ) → IsOpenHead side taken → IsOpen side taken
+pub open_head : (side : MessageSide) (taken : List ℕ) → IsOpenHead side taken → IsOpen side taken
 open_head side taken (inl x) = inl x
 open_head side taken (inr x) = inr (inl x)
 
@@ -87,7 +87,7 @@ said_ahead side a b c l k h left content (begun, (used, consumes, framed)) goes 
   ),
 )
 
-body_word : (side : MessageSide) (a b l : Option (List ℕ)) (h : Head) (left : BodyLeft) (why : HttpRefusal)
+pub body_word : (side : MessageSide) (a b l : Option (List ℕ)) (h : Head) (left : BodyLeft) (why : HttpRefusal)
     → ReadsAHead side a b l (Ok (Some (h, left))) → IfSome b (λ bytes. BodyFramed left bytes (body_refused why))
     → IfSome a (λ bytes. Framed side bytes (message_refused why))
 body_word side None b l h left why x y = tt

@@ -31,4 +31,4 @@ pub use piece::read_piece;
 pub use read::{read_head, read_message};
 pub use refusal::HttpRefusal;
 pub use tokens::{trim, trim_front};
-pub use write::{message_len, write_message};
+pub use write::{message_len, phrase_of, write_message};

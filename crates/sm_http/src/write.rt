@@ -11,8 +11,8 @@ use sm_bytes::{make_room, place_slice};
 use sm_tree::NoMemory;
 use std::alloc::Global;
 
-// The phrase of a status, or none.
-fn phrase_of(status: u16) -> &'static str
+/// The phrase of a status, or the empty text where it has none. No memory.
+pub fn phrase_of(status: u16) -> &'static str
     ensures { result.now ≡ phrase status }
 {
     match StatusCode::from_u16(status) {
