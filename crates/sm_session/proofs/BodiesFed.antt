@@ -12,8 +12,9 @@ use Rattle.sm_http.specs.declared.refusal.HttpRefusal.TheVariants.{ReadFault, En
 use Rattle.sm_http.specs.declared.refusal.HttpRefusal.TheVariants.{Head as BadHead}
 use Rattle.sm_http.specs.Bodies.{BodyFraming, BodyFramed, body, body_refused, behind_data}
 use Rattle.sm_http.specs.Calls.{Uses, GoesOn}
-use Rattle.sm_session.specs.Responding.{Reads, ReadsOn, is_empty}
-use Rattle.sm_session.specs.steps.Feeding.{RefusesBody, Feeding}
+use Rattle.sm_http.specs.steps.Passing.{RefusesBody}
+use Rattle.sm_session.specs.Responding.{HasRead, Reads, ReadsOn, is_empty}
+use Rattle.sm_session.specs.steps.Feeding.{Feeding}
 
 behind_none : (framing : BodyFraming) → behind_data [] framing ≡ framing
 behind_none (body content rest) = refl
@@ -38,6 +39,10 @@ begins_feeding before place ahead first = record {
   handed = λ begun bytes x. subst (λ s. before begun s) (sym (append-nil bytes)) x;
   same = append-nil first;
 }
+
+-- of what a piece more was read, some was read
+pub has_read_on : (before now : Reads) (piece : List ℕ) → ReadsOn before now piece → HasRead before → HasRead now
+has_read_on before now piece on (begun, bytes, x) = (begun, bytes ++ piece, on begun bytes x)
 
 -- a piece more was handed on, and the next one read
 pub feeds_on : (before reads next : Reads) (begun place behind : BodyLeft) (ahead now after : Option (List ℕ))

@@ -29,6 +29,21 @@ Reads = Begun → List ℕ → Type 0
 abbrev pub ReadsOn : Reads → Reads → List ℕ → Type 0
 ReadsOn before now piece = (begun : Begun) (bytes : List ℕ) → before begun bytes → now begun (bytes ++ piece)
 
+-- some of a message was read
+abbrev pub HasRead : Reads → Type 0
+HasRead reads = (begun : Begun) × (bytes : List ℕ) × reads begun bytes
+
+-- the whole body of a request was read, or of the back's answer to one
+abbrev pub HasReadRequest : Reads → Type 0
+HasReadRequest reads = (m : Message) × reads (begun_for None m) m.body
+
+abbrev pub HasReadReply : Reads → Type 0
+HasReadReply reads = (m : Message) × (said : Message) × reads (begun_for (Some m) said) said.body
+
+-- some request was asked
+abbrev pub HasAsked : (Message → Type 0) → Type 0
+HasAsked called = (m : Message) × called m
+
 -- the request that was read comes to this: the text that the back is asked was appended, or there is an answer
 abbrev pub ComesTo : {C : Type 0} → Asking → (C → Message → Type 0) → Message → List ℕ → List ℕ → Turn C → Type 0
 ComesTo asking calls m before now (Answered answer) = asking m (answered answer)

@@ -4,6 +4,7 @@ ghost use Rattle.sm_http.specs.declared.message.Head.{Head};
 ghost use Rattle.sm_http.specs.declared.message.Message.{Message};
 ghost use Rattle.sm_session.specs.Turns.{Asked};
 ghost use Rattle.sm_session.specs.Responding.{Begun, ReadsOn, FinishesRequest, FinishesReply};
+ghost use Rattle.sm_session.specs.Responding.{HasAsked, HasRead, HasReadReply, HasReadRequest};
 ghost use Rattle.sm_session.specs.Laws.{HasOneAsked, HasSomeAsked, HasOneReply, HasSomeReply};
 
 use sm_http::{Head, Message};
@@ -79,6 +80,7 @@ pub trait Responder {
         empty: bool,
     ) -> Result<Self::Body, NoMemory>
         requires stands { stands self.now store.old }
+        requires asked { HasAsked (calls self.now call) }
         ensures reads { IfOk result (λ body. (m : Message) → calls self.now call m
             → reads self.now body (record { request = Some m; head = head.now; empty = empty }) []) }
         ensures alike { alike self.now store.old store.new };
@@ -96,6 +98,7 @@ pub trait Responder {
         piece: &[u8],
     ) -> Result<(), NoMemory>
         requires stands { stands self.now store.old }
+        requires begun { HasRead (reads self.now body.old) }
         requires some { 0 < length piece.now }
         ensures reads { OnOk result (ReadsOn (reads self.now body.old) (reads self.now body.new) piece.now) }
         ensures alike { alike self.now store.old store.new };
@@ -113,6 +116,7 @@ pub trait Responder {
         out: &mut Vec<u8>,
     ) -> Result<Turn<Self::Call>, NoMemory>
         requires stands { stands self.now store.old }
+        requires whole { HasReadRequest (reads self.now body) }
         ensures comes { FinishesRequest (asking self.now) (calls self.now) (reads self.now body) out.old.items out.new.items result }
         ensures alike { alike self.now store.old store.new };
 
@@ -128,6 +132,7 @@ pub trait Responder {
         body: Self::Body,
     ) -> Result<Message, NoMemory>
         requires stands { stands self.now store.old }
+        requires whole { HasReadReply (reads self.now body) }
         ensures replies { FinishesReply (replying self.now) (reads self.now body) result }
         ensures alike { alike self.now store.old store.new };
 

@@ -7,6 +7,7 @@ ghost use Rattle.sm_http.specs.declared.message.Message.{Message};
 ghost use Rattle.sm_http.specs.declared.message.BodyLeft.TheVariants.{Done};
 ghost use Rattle.sm_http.specs.Limits.{piece_limit};
 ghost use Rattle.sm_http.specs.Calls.{IsWithinLimit};
+ghost use Rattle.sm_session.specs.Responding.{HasAsked, HasRead};
 ghost use Rattle.sm_session.specs.steps.Feeding.{FeedsRest, ReadsBody, OfRequest, OfReply};
 ghost use Rattle.sm_session.specs.steps.Taking.{TakesRequest, TakesReply};
 
@@ -31,6 +32,7 @@ fn feed_rest<R: Responder, S: Source>(
     body: R::Body,
 ) -> Result<R::Body, HttpRefusal>
     requires stands { R.stands responder.now store.old }
+    requires begun { HasRead (R.reads responder.now body) }
     requires within { IsWithinLimit left.old }
     requires few { first ≤ piece_limit }
     requires done { first ≡ 0 → left.old ≡ Done }
@@ -104,6 +106,7 @@ fn read_reply<R: Responder, S: Source>(
     begun: BodyLeft,
 ) -> Result<R::Body, HttpRefusal>
     requires stands { R.stands responder.now store.old }
+    requires asked { HasAsked (R.calls responder.now call) }
     requires within { IsWithinLimit begun }
     ensures bytes { ReadsBody (OfReply (R.reads responder.now) (R.calls responder.now call) head.now) begun
         (prepend_known held.old (S.left source.old)) (prepend_known held.new (S.left source.new)) (S.left source.new) result }
@@ -170,6 +173,7 @@ pub(crate) fn take_reply<R: Responder, S: Source>(
     call: R::Call,
 ) -> Result<Option<(Message, bool)>, HttpRefusal>
     requires stands { R.stands responder.now store.old }
+    requires asked { HasAsked (R.calls responder.now call) }
     ensures bytes { TakesReply (R.replying responder.now) (R.calls responder.now call) (prepend_known held.old (S.left source.old))
         (prepend_known held.new (S.left source.new)) (S.left source.new) result }
     ensures alike { R.alike responder.now store.old store.new }

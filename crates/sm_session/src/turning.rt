@@ -6,7 +6,7 @@ ghost use Rattle.sm_io.specs.Seen.{stream};
 ghost use Rattle.sm_http.specs.declared.message.Message.{Message};
 ghost use Rattle.sm_session.specs.Turns.{TurnBy, back_end as the_back_end};
 ghost use Rattle.sm_session.specs.Sessions.{turn_end as the_turn_end};
-ghost use Rattle.sm_session.specs.Responding.{ComesTo};
+ghost use Rattle.sm_session.specs.Responding.{ComesTo, HasAsked};
 ghost use Rattle.sm_session.specs.steps.Turning.{IsLost, LosesBack, RepliesSo, AnswersSo};
 
 use crate::own_answers::back_answer;
@@ -99,6 +99,7 @@ fn hear_back<R: Responder, C: Source>(
     call: R::Call,
 ) -> Result<Answered, SessionEnd>
     requires stands { R.stands responder.now store.old }
+    requires asked { HasAsked (R.calls responder.now call) }
     ensures replies { RepliesSo (R.replying responder.now) (R.calls responder.now call)
         (stream (prepend_known held.old (C.left back_in.old)) (C.faults back_in.old))
         (stream (prepend_known held.new (C.left back_in.new)) (C.faults back_in.new)) (C.left back_in.new) result }
@@ -129,6 +130,7 @@ pub(crate) fn answer_request<R: Responder, C: Source, D: Sink>(
     turn: Turn<R::Call>,
 ) -> Result<Answered, SessionEnd>
     requires stands { R.stands responder.now store.old }
+    requires read { (m : Message) × ComesTo (R.asking responder.now) (R.calls responder.now) m [] text.now turn }
     ensures comes { (m : Message) → ComesTo (R.asking responder.now) (R.calls responder.now) m [] text.now turn
         → AnswersSo (R.asking responder.now) (TurnBy (R.asking responder.now) (R.replying responder.now)) m
         (stream (prepend_known held.old (C.left back_in.old)) (C.faults back_in.old))

@@ -5,18 +5,13 @@ use Rattle.sm_http.specs.declared.message.Head.{Head}
 use Rattle.sm_http.specs.declared.message.Message.{Message}
 use Rattle.sm_http.specs.declared.message.BodyLeft.{BodyLeft}
 use Rattle.sm_http.specs.declared.refusal.HttpRefusal.{HttpRefusal}
-use Rattle.sm_http.specs.declared.refusal.HttpRefusal.TheVariants.{Ended}
-use Rattle.sm_http.specs.Bodies.{BodyFraming, BodyFramed, body, body_refused, behind_data}
-use Rattle.sm_http.specs.Calls.{Uses, RefusedAs}
+use Rattle.sm_http.specs.Bodies.{BodyFraming, BodyFramed, body, behind_data}
+use Rattle.sm_http.specs.Calls.{Uses}
+use Rattle.sm_http.specs.steps.Passing.{RefusesBody}
 use Rattle.sm_session.specs.Responding.{Reads, ReadsOn, begun_for}
 
 abbrev pub message_of : Head → List ℕ → Message
 message_of head content = record { head = head; body = content }
-
--- a body, from a place on, is refused, or the source failed within it
-abbrev pub RefusesBody : BodyLeft → Option (List ℕ) → Option (List ℕ) → HttpRefusal → Type 0
-RefusesBody begun ahead left why =
-    RefusedAs ahead left (λ bytes word. BodyFramed begun bytes (body_refused word)) (λ taken. BodyFramed begun taken (body_refused Ended)) why
 
 -- the rest of a body was read behind a piece, and handed on with it
 abbrev pub FeedsRest : {B : Type 0} → Reads → (B → Reads) → BodyLeft → Option (List ℕ) → Option (List ℕ) → Option (List ℕ) → List ℕ

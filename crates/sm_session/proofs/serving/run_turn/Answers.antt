@@ -111,3 +111,13 @@ returns-clause-runs g c =
     (comes_alone asking (g.R.Responder.calls r) m c.clear.new.self.items c.take_request.new.out.items c.as_slice.result.now
     c.in-Ok-Some.taken.1 c.clear.ensures.items c.as_slice.ensures.value taken.2))
     c.finish_turn.ensures.finishes
+
+pub answer_request-requires-clause-read : goal.answer_request-requires-clause-read
+answer_request-requires-clause-read g c =
+    let r = c.args.responder.now in
+    let taken = rw c.in-Ok-Some.field-0-is at c.in-Ok-Some.ensures.bytes in
+    let m = message_of c.in-Ok-Some.taken.0 taken.0 in (
+      m,
+      comes_alone (g.R.Responder.asking r) (g.R.Responder.calls r) m c.clear.new.self.items c.take_request.new.out.items
+          c.as_slice.result.now c.in-Ok-Some.taken.1 c.clear.ensures.items c.as_slice.ensures.value taken.2,
+    )

@@ -1,7 +1,7 @@
 use Rattle.std.proofs.Common.{◌≡◌, ap, take, arith}
 use Rattle.std.specs.Io.KnownBytes.{prepend_known}
 use Rattle.sm_io.proofs.Told.{loses_none, loses_both}
-use Rattle.sm_session.proofs.BodiesFed.{begins_feeding, feeds_on, feeds_whole, refused_feeding}
+use Rattle.sm_session.proofs.BodiesFed.{begins_feeding, feeds_on, feeds_whole, has_read_on, refused_feeding}
 use Rattle.sm_session.proofs.taking.feed_rest.Goals as goal
 
 pub loop-count-init : goal.loop-count-init
@@ -11,6 +11,7 @@ loop-count-init g c = record {
   within = c.requires.within;
   few = c.requires.few;
   done = c.requires.done;
+  begun = c.requires.begun;
   stands = c.requires.stands;
   alike = g.met.R.Responder.alike_itself c.args.responder.now c.args.store.now;
   taken = loses_none (g.S.Source.left c.args.source.now);
@@ -42,6 +43,9 @@ loop-count-preserved g c = record {
   within = c.in-Ok-read_piece.ensures.within;
   few = c.in-Ok-read_piece.ensures.bytes.0;
   done = c.in-Ok-read_piece.ensures.bytes.1;
+  begun = has_read_on (g.R.Responder.reads c.args.responder.now c.loop-count.body)
+      (g.R.Responder.reads c.args.responder.now c.piece.new.body) (take c.loop-count.count c.loop-count.buf) c.in-Ok.ensures.reads
+      c.loop-count.invariant.begun;
   stands = g.met.R.Responder.alike_stands c.args.responder.now c.loop-count.store c.piece.new.store c.piece.ensures.alike
       c.loop-count.invariant.stands;
   alike = g.met.R.Responder.alike_then c.args.responder.now c.args.store.now c.loop-count.store c.piece.new.store

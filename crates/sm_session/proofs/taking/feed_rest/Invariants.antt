@@ -5,6 +5,7 @@ use Rattle.sm_io.specs.Reading.{LosesPrefix}
 use Rattle.sm_http.specs.declared.message.BodyLeft.TheVariants.{Done}
 use Rattle.sm_http.specs.Limits.{piece_limit}
 use Rattle.sm_http.specs.Calls.{IsWithinLimit, data_room}
+use Rattle.sm_session.specs.Responding.{HasRead}
 use Rattle.sm_session.specs.steps.Feeding.{Feeding}
 use Rattle.sm_session.proofs.taking.feed_rest.Given as goal
 
@@ -16,6 +17,7 @@ invariant-loop-count g l = record {
   within : IsWithinLimit l.left;
   few : l.count ≤ piece_limit;
   done : l.count ≡ 0 → l.left ≡ Done;
+  begun : HasRead (g.R.Responder.reads l.responder l.body);
   stands : g.R.Responder.stands l.responder l.store;
   alike : g.R.Responder.alike l.responder l.fn.store l.store;
   taken : LosesPrefix (g.S.Source.left l.fn.source) (g.S.Source.left l.source);

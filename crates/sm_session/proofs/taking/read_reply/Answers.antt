@@ -18,3 +18,6 @@ pub returns-clause-taken : goal.returns-clause-taken
 returns-clause-taken g c =
     loses_both (g.S.Source.left c.args.source.now) (g.S.Source.left c.read_piece.new.source) (g.S.Source.left c.feed_rest.new.source)
     c.in-Ok.ensures.taken c.feed_rest.ensures.taken
+
+pub feed_rest-requires-clause-begun : goal.feed_rest-requires-clause-begun
+feed_rest-requires-clause-begun g c = (_, _, c.in-Ok-begin_reply.ensures.reads c.requires.asked.0 c.requires.asked.1)

@@ -29,3 +29,10 @@ returns-clause-comes g c m x =
     (stream (g.D.Sink.written c.args.back_out.now) (g.D.Sink.faults c.args.back_out.now))
     (stream (g.D.Sink.written c.put.new.self) (g.D.Sink.faults c.put.new.self)) c.hear_back.result
     (subst (λ s. asking m (asks s)) (sym comes.2) comes.1) comes.3 c.in-Ok.ensures.bytes c.hear_back.ensures.replies
+
+pub hear_back-requires-clause-asked : goal.hear_back-requires-clause-asked
+hear_back-requires-clause-asked g c =
+    let r = c.args.responder.now in
+    let m = c.requires.read.0 in
+    let comes = subst (ComesTo (g.R.Responder.asking r) (g.R.Responder.calls r) m [] c.args.text.now) c.in-Asking.is c.requires.read.1 in
+    (m, comes.3)
