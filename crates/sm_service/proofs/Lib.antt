@@ -16,6 +16,7 @@ mod KeptErrors
 mod ShownMembers
 mod FilledServices
 mod ServedRoots
+mod ServingRooms
 mod ReferencesRead
 mod OnceNamed
 mod OperationsNamed

@@ -6,5 +6,6 @@ pub mod WalkStarts
 pub mod WireSaid
 pub mod BindingsTold
 pub mod ServiceTables
+pub mod ServingRooms
 pub mod OperationRows
 pub mod ServicesMade

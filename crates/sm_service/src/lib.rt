@@ -22,6 +22,7 @@ mod refusal;
 mod served;
 mod service;
 mod serving;
+mod serving_room;
 mod table;
 
 pub use compiling::compile;

@@ -6,7 +6,7 @@ ghost use Rattle.sm_model.specs.GraphView.{IsShapeAt, IsShapeNumber, entries_of,
 ghost use Rattle.sm_model.specs.Reaching.{AreMarks, id_of_number};
 ghost use Rattle.sm_model.specs.Relations.{HasEntry};
 ghost use Rattle.sm_compile.specs.Compiled.{EachSays};
-ghost use Rattle.sm_compile.specs.WayRooms.{AreKnownServed, IsRoomFor};
+ghost use Rattle.sm_compile.specs.WayRooms.{AreKnownServed};
 ghost use Rattle.sm_compile.specs.steps.Numbered.{numbering};
 ghost use Rattle.sm_rules.specs.Ready.{IsOfService, Ready};
 ghost use Rattle.sm_rules.specs.Words.{IsOwnShape, IsService};
@@ -21,6 +21,7 @@ ghost use Rattle.sm_service.specs.steps.OperationRows.{AreRowNumbers, AreShared,
 ghost use Rattle.sm_service.specs.steps.OperationRows.{HaveErrorRows, JoinsErrors, NamesTell, PutsStarts, TellsErrors, errors_named};
 ghost use Rattle.sm_service.specs.steps.OperationRows.{first_unserved, ids_of_errors};
 ghost use Rattle.sm_service.specs.steps.ServiceTables.{AreValueShapes};
+ghost use Rattle.sm_service.specs.steps.ServingRooms.{IsServingRoom};
 ghost use Rattle.sm_service.specs.steps.WalkStarts.{HasFilledNames};
 
 use crate::error::ErrorShape;
@@ -34,7 +35,8 @@ use crate::references::reference;
 use crate::served::OperationServed;
 use crate::service::Operations;
 use crate::serving::{WalkStart, served_from};
-use sm_compile::{WayRoom, row_at};
+use crate::serving_room::ServingRoom;
+use sm_compile::row_at;
 use sm_model::{Graph, no_marks};
 use sm_tree::{NoMemory, Text};
 use std::alloc::Global;
@@ -71,7 +73,7 @@ pub(crate) fn operations(
 {
     let numbers = operation_numbers(alloc, graph, service, marks)?;
     let known = known_errors(alloc, graph, shapes, service)?;
-    let mut room = WayRoom::over(alloc, graph, served)?;
+    let mut room = ServingRoom::over(alloc, graph, served)?;
     let shared = share_errors(alloc, graph, shapes, known, &mut room)?;
     let rows = operation_rows(alloc, graph, shapes, &shared, numbers.as_slice(), &mut room)?;
     Ok(Operations::new(rows))
@@ -109,12 +111,12 @@ fn share_errors<'a>(
     graph: &'a Graph,
     shapes: &[u32],
     known: Rc<KnownErrors>,
-    room: &mut WayRoom<'a>,
+    room: &mut ServingRoom<'a>,
 ) -> Result<SharedErrors, NoMemory>
     requires names { HasFilledNames (maps_of graph.now) }
     requires errors { (e : ErrorShape) → Contains known.value e → StandsAt graph.now shapes.now e }
-    requires room { IsRoomFor graph.now room.old }
-    ensures room { OnOk result (IsRoomFor graph.now room.new) }
+    requires room { IsServingRoom graph.now room.old }
+    ensures room { OnOk result (IsServingRoom graph.now room.new) }
     ensures same { IfOk result (λ shared. shared.known.value ≡ known.value) }
     ensures served { IfOk result (λ shared. TellsErrors graph.now shared.known.value (served_said shared.served)) }
 {
@@ -128,12 +130,12 @@ fn errors_served<'a>(
     graph: &'a Graph,
     shapes: &[u32],
     errors: &[ErrorShape],
-    room: &mut WayRoom<'a>,
+    room: &mut ServingRoom<'a>,
 ) -> Result<OperationServed, NoMemory>
     requires names { HasFilledNames (maps_of graph.now) }
     requires errors { (e : ErrorShape) → Contains errors.now e → StandsAt graph.now shapes.now e }
-    requires room { IsRoomFor graph.now room.old }
-    ensures room { OnOk result (IsRoomFor graph.now room.new) }
+    requires room { IsServingRoom graph.now room.old }
+    ensures room { OnOk result (IsServingRoom graph.now room.new) }
     ensures served { IfOk result (λ s. TellsErrors graph.now errors.now (served_said s)) }
 {
     let mut starts = Vec::new(alloc);
@@ -148,13 +150,13 @@ fn operation_rows<'a>(
     shapes: &[u32],
     shared: &SharedErrors,
     operations: &[u32],
-    room: &mut WayRoom<'a>,
+    room: &mut ServingRoom<'a>,
 ) -> Result<Vec<Operation>, NoMemory>
     requires rows { AreRowNumbers graph.now shapes.now }
     requires names { HasFilledNames (maps_of graph.now) }
     requires shared { AreShared graph.now shared.now }
     requires operations { (k : ℕ) → Contains operations.now k → IsReadyOperation graph.now shapes.now shared.now.known.value k }
-    requires room { IsRoomFor graph.now room.old }
+    requires room { IsServingRoom graph.now room.old }
     ensures { IfOk result (λ rows. EachSays (TellsOperation graph.now shapes.now shared.now.known.value)
         (map (id_of_number graph.now) operations.now) (map operation_data rows.items)) }
 {
@@ -177,16 +179,16 @@ fn operation_row<'a>(
     shared: &SharedErrors,
     operation: u32,
     marks: &mut Vec<bool>,
-    room: &mut WayRoom<'a>,
+    room: &mut ServingRoom<'a>,
 ) -> Result<Operation, NoMemory>
     requires rows { AreRowNumbers graph.now shapes.now }
     requires names { HasFilledNames (maps_of graph.now) }
     requires shared { AreShared graph.now shared.now }
     requires operation { IsReadyOperation graph.now shapes.now shared.now.known.value operation }
     requires marks { marks.old.items ≡ replicate (length (entries_of graph.now)) false }
-    requires room { IsRoomFor graph.now room.old }
+    requires room { IsServingRoom graph.now room.old }
     ensures marks { OnOk result (marks.new.items ≡ replicate (length (entries_of graph.now)) false) }
-    ensures room { OnOk result (IsRoomFor graph.now room.new) }
+    ensures room { OnOk result (IsServingRoom graph.now room.new) }
     ensures row { IfOk result (λ row. TellsOperation graph.now shapes.now shared.now.known.value
         (id_of_number graph.now operation) (operation_data row)) }
 {
@@ -247,14 +249,14 @@ fn own_served<'a>(
     own: &[ErrorShape],
     input: u32,
     output: u32,
-    room: &mut WayRoom<'a>,
+    room: &mut ServingRoom<'a>,
 ) -> Result<OperationServed, NoMemory>
     requires names { HasFilledNames (maps_of graph.now) }
     requires input { IsShapeNumber graph.now input }
     requires output { IsShapeNumber graph.now output }
     requires errors { (e : ErrorShape) → Contains own.now e → StandsAt graph.now shapes.now e }
-    requires room { IsRoomFor graph.now room.old }
-    ensures room { OnOk result (IsRoomFor graph.now room.new) }
+    requires room { IsServingRoom graph.now room.old }
+    ensures room { OnOk result (IsServingRoom graph.now room.new) }
     ensures served { IfOk result (λ s. TellsAllServed (maps_of graph.now)
         (walk_roots (id_of_number graph.now input) (id_of_number graph.now output) (ids_of_errors own.now)) (served_said s)) }
 {

@@ -1,6 +1,5 @@
 // Whether an operation is served. Operations that share a shape may share the way from it to one that isn't.
 ghost use Rattle.std.specs.Prelude.{◌≡◌, IfOk};
-ghost use Rattle.sm_shapes.specs.SharedView.{shared_list};
 ghost use Rattle.sm_service.specs.PathView.{member_path_text};
 ghost use Rattle.sm_service.specs.ServiceView.{served_said};
 
@@ -13,41 +12,34 @@ use std::rc::Rc;
 /// its text.
 #[derive(Debug, Drop)]
 pub struct MemberPath {
-    // Where it begins, `input`, `output` or `error/NAME`, with the steps before those that are shared.
+    // Where it begins: `input`, `output` or `error/NAME`.
     start: Text,
-    // The names of the members from there on, joined by `/`: nothing, or an empty text, where it ends there.
-    way: Option<Rc<Text>>,
+    // The names of the members from there on, joined by `/`, for all paths that begin at this shape: empty, where it ends there.
+    way: Rc<Text>,
 }
 
 impl Model for MemberPath {
     ghost use Rattle.std.specs.Prelude.{List, ℕ};
-    ghost use Rattle.sm_shapes.specs.SharedView.{shared_list};
     ghost use Rattle.sm_service.specs.PathView.{member_path_text};
 
     ghost Value = { List ℕ };
 
-    ghost view = { λ a. member_path_text a.start (shared_list a.way) };
+    ghost view = { λ a. member_path_text a.start a.way.value };
 }
 
 impl MemberPath {
-    /// The path of a start, and of the way from there.
-    pub(crate) fn new(alloc: Global, start: Text, way: Text) -> Result<Self, NoMemory>
-        ensures { IfOk result (λ path. path ≡ member_path_text start way) }
+    /// The path of a start, and of the way from there. No memory.
+    pub(crate) fn new(start: Text, way: Rc<Text>) -> Self
+        ensures { result ≡ member_path_text start way.value }
     {
-        match Rc::new(alloc, way) {
-            Ok(way) => Ok(MemberPath {
-                start,
-                way: Some(way),
-            }),
-            Err(_) => Err(NoMemory),
-        }
+        MemberPath { start, way }
     }
 
     /// Its text.
     pub fn print(&self, alloc: Global) -> Result<Text, NoMemory>
         ensures { IfOk result (λ text. text ≡ self.now) }
     {
-        let way = shared_text(&self.way);
+        let way = self.way.as_ref().as_str();
         let mut text = String::from_str(alloc, self.start.as_str())?;
         if !way.is_empty() {
             text.push_str("/")?;
@@ -61,33 +53,10 @@ impl MemberPath {
         ensures { IfOk result (λ path. path ≡ self.now) }
     {
         let start = Text::copy(alloc, self.start.as_str())?;
-        match shared_way(&self.way) {
+        match self.way.clone() {
             Ok(way) => Ok(MemberPath { start, way }),
-            Err(refusal) => Err(refusal),
-        }
-    }
-}
-
-// A text that is shared, or nothing.
-fn shared_text(way: &Option<Rc<Text>>) -> &str
-    ensures { result.now ≡ shared_list way.now }
-{
-    match way {
-        None => "",
-        Some(text) => text.as_ref().as_str(),
-    }
-}
-
-// The same way.
-fn shared_way(way: &Option<Rc<Text>>) -> Result<Option<Rc<Text>>, NoMemory>
-    ensures { IfOk result (λ same. shared_list same ≡ shared_list way.now) }
-{
-    match way {
-        None => Ok(None),
-        Some(way) => match way.clone() {
-            Ok(way) => Ok(Some(way)),
             Err(_) => Err(NoMemory),
-        },
+        }
     }
 }
 
