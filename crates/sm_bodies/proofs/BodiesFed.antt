@@ -2,7 +2,7 @@
 use Rattle.std.proofs.Common.{arith, length, ◌≡◌, ◌≤◌, ◌+◌, ◌*◌, ℕ, List, [], ◌++◌, None, Some, take, drop, suc, refl, sym, ap, ◌∙◌, subst}
 use Rattle.std.proofs.Math.Seq.{take-add}
 use Rattle.std.proofs.lemmas.Nat.{mul-le}
-use Rattle.std.specs.Prelude.{Result, Ok, Err, OnOk, IfSome}
+use Rattle.std.specs.Prelude.{Result, Ok, Err, OnOk, IfSome, Option}
 use Rattle.sm_tree.specs.Events.{NodeEvent}
 use Rattle.sm_tree.specs.Streams.{StandsFor}
 use Rattle.sm_tree.specs.Syntax.{Syntax}
@@ -15,7 +15,7 @@ use Rattle.sm_codec.specs.Walk.{levels_open}
 use Rattle.std.proofs.lemmas.List.{length-map}
 use Rattle.sm_tree.specs.Sources.{SourceOf, SourceStands, FollowsAs, HasFed, MayFeed, SourceFeeds, ReadsInto, ReadCompletes}
 use Rattle.sm_tree.specs.declared.refusal.SyntaxRefusal.{SyntaxRefusal}
-use Rattle.sm_tree.specs.declared.refusal.SyntaxRefusal.TheVariants.{Ended, NoMemory}
+use Rattle.sm_tree.specs.declared.refusal.SyntaxRefusal.TheVariants.{Bad, Ended, KeyKind, NoMemory, TooDeep}
 use Rattle.sm_tree.proofs.Sources.{no_refusal, none_yet, follows_now, fed_to, fed_on, few_fed}
 use Rattle.sm_shapes.specs.InOrder.{Shaped, AreStored, most_defaults}
 use Rattle.sm_codec.specs.Bound.{decoding_nodes, known_trees, StaysBounded}
@@ -84,6 +84,35 @@ pub end_fed : {R : Type 0} (s : SourceOf R) (c : Codec) (added : List (List ℕ)
     → ReadsInto s.syntax (IsFed c added e) bytes res
 end_fed s c added T r d e res shaped stored ends kept shape bytes (is, fed) =
     read_as s.syntax T (IsFed c added e) bytes res kept (ends bytes (sink_fed s c added r d bytes shaped stored fed))
+
+-- a reader that ran out of memory says so
+told_again : {R : Type 0} (s : SourceOf R) (before behind : R) (given : SyntaxRefusal) (res : Result (Unit {0}) SyntaxRefusal)
+    → s.refusal before ≡ Some given → res ≡ Err given → behind ≡ before → s.refusal behind ≡ Some NoMemory → res ≡ Err NoMemory
+told_again s before behind given res is told same out =
+    told ∙ ap Err (same_refusal given NoMemory (sym is ∙ ap s.refusal (sym same) ∙ out))
+  where
+    same_refusal : (a b : SyntaxRefusal) → Some a ≡ Some b → a ≡ b
+    same_refusal a b e = cc
+
+told_now : {R : Type 0} (s : SourceOf R) (S T : StandsFor) (before behind : R) (piece : List ℕ) (res : Result (Unit {0}) SyntaxRefusal)
+    → SourceFeeds s S before piece T behind res → s.refusal behind ≡ Some NoMemory → res ≡ Err NoMemory
+told_now s S T before behind piece (Ok x) h out = let first = h.0 in absurd cc
+told_now s S T before behind piece (Err NoMemory) h out = refl
+told_now s S T before behind piece (Err Ended) h out = absurd h
+told_now s S T before behind piece (Err (Bad p)) h out = let first = h.0 in absurd cc
+told_now s S T before behind piece (Err (TooDeep p)) h out = let first = h.0 in absurd cc
+told_now s S T before behind piece (Err (KeyKind p)) h out = let first = h.0 in absurd cc
+
+pub memory_told : {R : Type 0} (s : SourceOf R) (S T : StandsFor) (before behind : R) (piece : List ℕ) (res : Result (Unit {0}) SyntaxRefusal)
+    (Same : Type 0) → (s.refusal before ≡ None → SourceFeeds s S before piece T behind res)
+    → IfSome (s.refusal before) (λ given. (res ≡ Err given) × (behind ≡ before) × Same) → s.refusal behind ≡ Some NoMemory
+    → res ≡ Err NoMemory
+memory_told {R} s S T before behind piece res Same feeds again out = by (s.refusal before) refl again
+  where
+    by : (o : Option SyntaxRefusal) → s.refusal before ≡ o → IfSome o (λ given. (res ≡ Err given) × (behind ≡ before) × Same)
+        → res ≡ Err NoMemory
+    by None is h = told_now s S T before behind piece res (feeds is) out
+    by (Some given) is h = told_again s before behind given res is h.0 h.1 out
 
 -- the bytes so far, and a piece of so many behind them
 pub piece_behind : (i n k : ℕ) (xs : List ℕ) → k ≡ n → take i xs ++ take k (drop i xs) ≡ take (i + n) xs

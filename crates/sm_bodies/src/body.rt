@@ -54,6 +54,7 @@ fn feed_piece<S: EventSource, L: Leaves, P: Patterns>(
     requires fed { SomeFed S.source (codec_of (table_data table.now) (L.convention leaves.now) P.test) reader.old decoder.old }
     ensures fed { FeedsDecoder S.source (codec_of (table_data table.now) (L.convention leaves.now) P.test) reader.old decoder.old
         piece.now reader.new decoder.new result }
+    ensures memory { (S.source).refusal reader.new ≡ Some SyntaxRefusal.NoMemory → result ≡ Err SyntaxRefusal.NoMemory }
     ensures added { P.added patterns.new ≡ P.added patterns.old }
     ensures refused { P.refused patterns.new ≡ P.refused patterns.old }
     ensures refusals { P.refusals patterns.new ≡ P.refusals patterns.old }
@@ -114,8 +115,9 @@ impl<S: EventSource + Drop> Body<S> {
     /// A body for the shape with this number, to which no byte has come. No memory yet.
     pub fn begin(alloc: Global, table: &Table, shape: u32) -> Result<Self, NoMemory>
         requires number { shape < shape_count (table_data table.now) }
-        ensures { IfOk result (λ body. (c : Codec) → c.table ≡ table_data table.now
+        ensures fed { IfOk result (λ body. (c : Codec) → c.table ≡ table_data table.now
             → BodyFed S.source c shape body.reader body.decoder []) }
+        ensures memory { IfOk result (λ body. (S.source).refusal body.reader ≡ Some SyntaxRefusal.NoMemory → ⊥) }
     {
         S::laws();
         match Decoder::start(alloc, table, shape) {
@@ -147,6 +149,7 @@ impl<S: EventSource + Drop> Body<S> {
             bytes
             → BodyFed S.source (codec_of (table_data table.now) (L.convention leaves.now) P.test) shape self.new.reader self.new.decoder
             (bytes ++ piece.now)) }
+        ensures memory { OnOk result ((S.source).refusal self.new.reader ≡ Some SyntaxRefusal.NoMemory → ⊥) }
         ensures added { P.added patterns.new ≡ P.added patterns.old }
         ensures refused { P.refused patterns.new ≡ P.refused patterns.old }
         ensures refusals { P.refusals patterns.new ≡ P.refusals patterns.old }

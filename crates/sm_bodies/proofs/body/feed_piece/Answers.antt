@@ -4,7 +4,7 @@ use Rattle.sm_codec.specs.Codec.{codec_of}
 use Rattle.sm_codec.specs.DecodingView.{decoding_of}
 use Rattle.sm_codec.specs.Kept.{Kept}
 use Rattle.sm_bodies.specs.steps.Reading.{FeedsDecoder}
-use Rattle.sm_bodies.proofs.BodiesFed.{may_feed, piece_fed}
+use Rattle.sm_bodies.proofs.BodiesFed.{may_feed, memory_told, piece_fed}
 use Rattle.sm_bodies.proofs.body.feed_piece.Goals as goal
 
 pub feed-requires-clause-stands : goal.feed-requires-clause-stands
@@ -27,3 +27,8 @@ returns-clause-fed g c =
     (subst (λ l. Kept (codec_of (table_data to.table.now) (g.L.Leaves.convention l) g.P.Patterns.test) es (decoding_of to.decoder.now))
     (sym c.feed.ensures.alike.1) stands.0))
     c.feed.ensures.alike.5)
+
+pub returns-clause-memory : goal.returns-clause-memory
+returns-clause-memory g c =
+    memory_told g.S.EventSource.source _ _ c.args.reader.now c.feed.new.self c.args.piece.now c.feed.result _ c.feed.ensures.feeds
+    c.feed.ensures.again

@@ -9,7 +9,7 @@ use Rattle.sm_bodies.proofs.reading.value_by.Goals as goal
 pub loop-at-init : goal.loop-at-init
 loop-at-init g c = record {
   inside = omega arith;
-  fed = c.in-Ok.ensures (codec_of (table_data c.args.table.now) (g.L.Leaves.convention c.args.leaves.now) g.P.Patterns.test) refl;
+  fed = c.in-Ok.ensures.fed (codec_of (table_data c.args.table.now) (g.L.Leaves.convention c.args.leaves.now) g.P.Patterns.test) refl;
   added = refl;
   refused = refl;
   refusals = refl;
