@@ -29,7 +29,7 @@ path_or_none None p e = refl
 path_or_none (Some path) p e = absurd cc
 
 -- what both ends serve the near end serves
-near_serves : (near far : MessageForm) (s : ServiceData) (o : ℕ) → ServesOperation (towards near far) s o → ServesOperation near s o
+pub near_serves : (near far : MessageForm) (s : ServiceData) (o : ℕ) → ServesOperation (towards near far) s o → ServesOperation near s o
 near_serves near far s o h = record { within = h.within; served = by (operation_at s o).served h.served }
   where
     by : (served : Served) → path_unserved served (or_by (near.restriction s o) (far.restriction s o)) ≡ None
@@ -54,6 +54,9 @@ reads_towards near far is = record {
   one_value = λ s test g head c v w serves served x y.
       is.one_value s test g head c v w (record { servable = serves.servable; asks = serves.asks.0; defaults = serves.defaults })
       (record { operation = near_serves near far s g.operation served.operation; goal = served.goal }) x y;
+  spelled_fits = λ s test g head c v serves served x.
+      is.spelled_fits s test g head c v (record { servable = serves.servable; asks = serves.asks.0; defaults = serves.defaults })
+      (record { operation = near_serves near far s g.operation served.operation; goal = served.goal }) x;
 }
 
 -- heads and goals are those of the near end
@@ -68,7 +71,7 @@ near_led near far F s body (to_goal k) g led = led
 near_led near far F s body (to_named_error o) g (e, names, same) =
     (e, record { tree = names.tree; has = names.has; names = names.names }, same)
 
-far_led : (near far : MessageForm) (F : TreeFormat) (s : ServiceData) (body : List ℕ) (there : Address) (g : Goal)
+pub far_led : (near far : MessageForm) (F : TreeFormat) (s : ServiceData) (body : List ℕ) (there : Address) (g : Goal)
     → LeadsTo F near s body there g → LeadsTo F (towards near far) s body there g
 far_led near far F s body (to_goal k) g led = led
 far_led near far F s body (to_named_error o) g (e, names, same) =
@@ -97,7 +100,7 @@ value_or_refusal : (g : Goal) (v : Val) (r : Refusal) → the_value g v ≡ the_
 value_or_refusal g v r e = cc
 
 -- what an answer with a value says
-abbrev Found : MessageForm → MessageForm → ServiceData → Test → Asked → Message → Goal → Val → Type 0
+abbrev pub Found : MessageForm → MessageForm → ServiceData → Test → Asked → Message → Goal → Val → Type 0
 Found near far s test asked m g v =
     ServesOperation (towards near far) s g.operation × IsAsked near s asked m.head g × ShortMsg near s test g v m
 
@@ -121,7 +124,7 @@ of_value near far is s test asked m g v may there spells =
       },
     )
 
-found : (near far : MessageForm) → ReadsMessages near → (s : ServiceData) (test : Test) (asked : Asked) (m : Message) (g : Goal) (v : Val)
+pub found : (near far : MessageForm) → ReadsMessages near → (s : ServiceData) (test : Test) (asked : Asked) (m : Message) (g : Goal) (v : Val)
     (a : MessageAnswer) → MayAsk (towards near far) s asked → MessageAnswers (towards near far) s test asked m.head m.body a
     → a ≡ the_value g v → Found near far s test asked m g v
 found near far is s test asked m g v a may (at_head r judged e) d = absurd (value_or_refusal g v _ (sym d ∙ e))

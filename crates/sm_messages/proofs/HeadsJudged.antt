@@ -117,7 +117,7 @@ pub place_within : (es : List ErrorShape) (w : List ℕ) (k : ℕ) → place_nam
 place_within es w k e =
     subst (λ n. k < n) (length-map es name_of_error) (slice_get_within (map name_of_error es) k w (some_named es w k e))
 
-told_within : (s : ServiceData) (o : ℕ) (told : Option (List ℕ)) (e : ℕ) → place_told s o told ≡ Some e
+pub told_within : (s : ServiceData) (o : ℕ) (told : Option (List ℕ)) (e : ℕ) → place_told s o told ≡ Some e
     → HasRole (operation_at s o) (the_error e)
 told_within s o None e h = absurd cc
 told_within s o (Some told) e h = place_within (operation_at s o).errors (error_name told) e h

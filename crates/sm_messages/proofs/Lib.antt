@@ -8,3 +8,8 @@ pub mod OperationsNamed
 pub mod TreeBodies
 pub mod ErrorsTold
 pub mod ObjectBodies
+pub mod ErrorsAt
+pub mod WrittenTexts
+pub mod Homes
+pub mod TreeAnswered
+pub mod BodiesBegun

@@ -1,15 +1,16 @@
 -- Bodies that are one tree of the whole value: they have no fault exactly where they spell a value, and then they spell one; and what is
 -- written for a value spells it, also behind the name of an error.
-use Rattle.std.proofs.Common.{◌≡◌, ◌⊎◌, inl, inr, ◌↔◌, ℕ, ◌<◌, true, false, List, [], ◌∷◌, ◌++◌, length, refl, sym, ap, ◌∙◌, subst, arith}
+use Rattle.std.proofs.Common.{◌≡◌, ◌⊎◌, inl, ◌↔◌, ℕ, ◌<◌, true, false, List, [], ◌∷◌, ◌++◌, length, map, refl, sym, ap, ◌∙◌, subst, arith}
 use Rattle.std.specs.Prelude.{Result, Ok, Err}
 use Rattle.std.specs.List.{Contains}
-use Rattle.std.proofs.lemmas.List.Elements.{Contains-append_left, Contains-append_right, Contains-get_or}
+use Rattle.std.proofs.lemmas.List.Elements.{Contains-append_right, Contains-get_or}
 use Rattle.sm_tree.specs.Node.{Node, Members, member, members_of, object, text}
 use Rattle.sm_shapes.specs.Fitting.{Fits, IsOfKind, Test}
 use Rattle.sm_shapes.specs.InOrder.{DefaultsPass, Shaped}
+use Rattle.sm_shapes.specs.Names.{NoneIs}
 use Rattle.sm_shapes.specs.Places.{Place, kind_of, member_place, members_of_place, root_place}
 use Rattle.sm_shapes.specs.TableData.{TableData, default_at, kind_at, members_at, name_at}
-use Rattle.sm_shapes.specs.Values.{FieldVals, Val, blob_val, bool_val, field, int_val, list_val, map_val, no_fields, null_val, structure_val}
+use Rattle.sm_shapes.specs.Values.{FieldVals, Val, blob_val, bool_val, int_val, list_val, map_val, null_val, structure_val}
 use Rattle.sm_shapes.specs.Values.{text_val, time_val, union_val}
 use Rattle.sm_shapes.specs.declared.fault.FaultKind.{FaultKind}
 use Rattle.sm_shapes.specs.declared.fault.FaultKind.TheVariants.{WrongType}
@@ -23,10 +24,10 @@ use Rattle.sm_codec.specs.Convention.{Convention, IsConvention}
 use Rattle.sm_codec.specs.FaultLists.{FaultAt, Reading}
 use Rattle.sm_codec.specs.Named.{named}
 use Rattle.sm_codec.specs.Readings.{one_here, reading}
-use Rattle.sm_codec.specs.Spelling.{AreAbsent, NoneOrNull, Spelled, SpelledFields, Spells, Stands}
+use Rattle.sm_codec.specs.Spelling.{Spelled, Spells, Stands}
 use Rattle.sm_codec.specs.Written.{uncarried, written, written_fields}
 use Rattle.sm_codec.proofs.ReadValues.{one_value, value_or_fault}
-use Rattle.sm_codec.proofs.WrittenValues.{named_other, written_spells}
+use Rattle.sm_codec.proofs.WrittenValues.{fields_beside, written_spells}
 use Rattle.sm_service.specs.Servable.{HasNoTypeMember, IsCarriedIn, IsReachedIn, IsServableOperation, IsStructureIn, Servable}
 use Rattle.sm_service.specs.ServiceData.{OperationData, ServiceData}
 use Rattle.sm_messages.specs.Goals.{Goal, HasGoal, HasRole, Role, error_at, goal_shape, no_error, no_operation, operation_at, role_shape}
@@ -76,6 +77,13 @@ tree_one_value l is s test g (a_tree n) v w servable pass h x y =
 tree_one_value l is s test g (raw_bytes b) v w servable pass h x y = absurd x
 tree_one_value l is s test g nothing v w servable pass h x y = absurd x
 
+-- a value that is spelled is one of its goal
+pub tree_spelled_fits : (l : Convention) (s : ServiceData) (test : Test) (g : Goal) (c : Content) (v : Val) → tree_spells l s test g c v
+    → Fits s.table test (goal_place s g) v
+tree_spelled_fits l s test g (a_tree n) v x = x.0
+tree_spelled_fits l s test g (raw_bytes b) v x = absurd x
+tree_spelled_fits l s test g nothing v x = absurd x
+
 -- the goals of an operation that is served have no member under the name of a message's type
 reached_itself : (s : ServiceData) (shape : ℕ) → IsReachedIn s.table shape shape
 reached_itself s shape = ([], refl)
@@ -107,32 +115,12 @@ module _ (c : Codec) (p : Place) (name : List ℕ) (n : Node) where
   contains_first : (k : ℕ) (ks : List ℕ) → Contains (k ∷ ks) k
   contains_first k ks = (0, omega arith, refl)
 
-  still_absent : (ps : List (List ℕ × Node)) (ks : List ℕ) → Apart ks → AreAbsent c p ps ks → AreAbsent c p ((name, n) ∷ ps) ks
-  still_absent ps [] apart h = tt
-  still_absent ps (k ∷ ks) apart h = (
-    subst NoneOrNull (sym (named_other (wire_name c p k) name n ps (apart k (contains_first k ks)))) h.0,
-    h.1,
-    still_absent ps ks (λ j there. apart j (Contains-append_right (k ∷ []) ks j there)) h.2,
+  none_apart : (ks : List ℕ) → Apart ks → NoneIs name (map (wire_name c p) ks)
+  none_apart [] apart = tt
+  none_apart (k ∷ ks) apart = (
+    λ e. apart k (contains_first k ks) (sym e),
+    none_apart ks (λ j there. apart j (Contains-append_right (k ∷ []) ks j there)),
   )
-
-  still_spelled : (ps : List (List ℕ × Node)) (ks : List ℕ) (fs : FieldVals) → Apart ks → SpelledFields c p ks fs ps
-      → SpelledFields c p ks fs ((name, n) ∷ ps)
-  still_spelled ps ks no_fields apart h = still_absent ps ks apart h
-  still_spelled ps ks (field k v fs) apart h =
-      let whole = subst (λ xs. Apart xs) h.2 apart in
-      let own = whole k (Contains-append_right h.0 (k ∷ h.1) k (contains_first k h.1)) in
-      let same = named_other (wire_name c p k) name n ps own in (
-        h.0,
-        h.1,
-        h.2,
-        still_absent ps h.0 (λ j there. whole j (Contains-append_left h.0 (k ∷ h.1) j there)) h.3,
-        elim h.4 [
-          | inl one ↦ inl (one.0, (same ∙ one.1.0, one.1.1), one.2)
-          | inr none ↦ inr (subst NoneOrNull (sym same) none.0, none.1)
-        ],
-        still_spelled ps h.1 fs
-            (λ j there. whole j (Contains-append_right h.0 (k ∷ h.1) j (Contains-append_right (k ∷ []) h.1 j there))) h.5,
-      )
 
   pair_passed : (ms : Members) (fs : FieldVals) → Apart (members_of_place c.table p) → Spelled c p (structure_val fs) (object ms)
       → Spelled c p (structure_val fs) (object (member name n ms))
@@ -141,7 +129,7 @@ module _ (c : Codec) (p : Place) (name : List ℕ) (n : Node) where
     (
       (name, n) ∷ h.1.0,
       ap (λ q. object (member name n q)) (same_members ms (members_of h.1.0) h.1.1),
-      still_spelled h.1.0 (members_of_place c.table p) fs apart h.1.2,
+      fields_beside c p name n (members_of_place c.table p) fs h.1.0 (none_apart (members_of_place c.table p) apart) h.1.2,
     ),
   )
     where

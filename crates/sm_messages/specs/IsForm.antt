@@ -49,6 +49,9 @@ pub record ReadsMessages (f : MessageForm) : Type 0 where
       → (f.faults s test g head c ≡ []) ↔ ((v : Val) × f.spells s test g head c v)
   pub one_value : (s : ServiceData) (test : Test) (g : Goal) (head : Head) (c : Content) (v w : Val) → Serves f s test → ServesGoal f s g
       → f.spells s test g head c v → f.spells s test g head c w → v ≡ w
+  -- and a value that is spelled is one of the goal
+  pub spelled_fits : (s : ServiceData) (test : Test) (g : Goal) (head : Head) (c : Content) (v : Val) → Serves f s test → ServesGoal f s g
+      → f.spells s test g head c v → Fits s.table test (root_place (goal_shape s g)) v
 
 pub record IsForm (f : MessageForm) : Type 0 where
   pub reads : ReadsMessages f

@@ -12,3 +12,8 @@ pub mod Laws
 pub mod Crossings
 pub mod WrittenHeads
 pub mod TreeBodies
+pub mod Carrying
+pub mod TreeForms
+pub mod TreeAnswers
+pub mod Begun
+pub mod Pieces

@@ -1,12 +1,15 @@
 -- How messages name an error (Smithy 2.0, "AWS JSON 1.1 protocol", "Operation error serialization"): by the name of its shape, before which
 -- a namespace may stand, and behind which a URI.
-use Rattle.std.specs.Prelude.{ℕ, List, ◌∷◌, Option, Some, None, if◌then◌else◌}
+use Rattle.std.specs.Prelude.{ℕ, List, ◌∷◌, Option, Some, None, codes, if◌then◌else◌}
 use Rattle.std.specs.List.{Contains, before_first}
 use Rattle.std.specs.Str.{bytes_eq}
 use Rattle.sm_bytes.specs.Ascii.{colon, number_sign}
 use Rattle.sm_ids.specs.IdText.{IsShapeId}
 use Rattle.sm_ids.specs.TextParts.{is_absolute, is_byte, local_part}
 use Rattle.sm_tree.specs.Node.{Node, Members, object, member, no_members, text}
+use Rattle.sm_compile.specs.Served.{type_name}
+use Rattle.sm_http.specs.FieldValues.{first_value, values_named}
+use Rattle.sm_http.specs.declared.message.Head.{Head}
 use Rattle.sm_service.specs.ErrorOrder.{place_named}
 use Rattle.sm_messages.specs.Goals.{operation_at}
 use Rattle.sm_service.specs.ServiceData.{ServiceData}
@@ -34,6 +37,20 @@ text_under name n = None
 abbrev pub or_else : Option (List ℕ) → Option (List ℕ) → Option (List ℕ)
 or_else (Some u) other = Some u
 or_else None other = other
+
+-- the text that tells an error where a field may (AWS JSON, restJson1): the first field's, also where it tells none that is known
+abbrev pub error_field_name : List ℕ
+error_field_name = codes "x-amzn-errortype"
+
+abbrev pub told_by_head : Head → Option (List ℕ)
+told_by_head head = first_value (values_named error_field_name head.fields)
+
+-- and else the body's
+abbrev pub code_name : List ℕ
+code_name = codes "code"
+
+abbrev pub told_by_body : Node → Option (List ℕ)
+told_by_body n = or_else (text_under type_name n) (text_under code_name n)
 
 -- the place of the first error of an operation that has the name which this text tells
 abbrev pub error_told : ServiceData → ℕ → List ℕ → Option ℕ

@@ -1,6 +1,7 @@
 -- The heads that are written, whatever the protocol: their fields in order, with names in lower case. A type is told of a body that isn't
 -- empty, and a length of each but that of the status 204 (RFC 9110, section 8.6).
-use Rattle.std.specs.Prelude.{ℕ, ◌==◌, Bool, true, false, cond, List, [], ◌∷◌, ◌++◌, codes, decimal, length}
+use Rattle.std.specs.Prelude.{ℕ, ◌==◌, Bool, true, false, cond, List, [], ◌∷◌, ◌++◌, codes, decimal, length, map}
+use denote.Ref.{Bor}
 use Rattle.sm_http.specs.declared.message.Field.{Field}
 use Rattle.sm_http.specs.declared.message.Message.{Message}
 use Rattle.sm_http.specs.declared.message.Start.{Start}
@@ -19,6 +20,10 @@ length_field body = field_of (codes "content-length") (decimal (length body))
 
 abbrev pub length_fields : ℕ → List ℕ → List Field
 length_fields status body = cond (status == 204) [] (length_field body ∷ [])
+
+-- fields by their names and values
+abbrev pub fields_given : List (Bor (List ℕ) × Bor (List ℕ)) → List Field
+fields_given given = map (λ field. field_of field.0.now field.1.now) given
 
 -- a request with this method and target to this host, with more fields of its protocol
 abbrev pub written_request : List ℕ → List ℕ → List ℕ → List ℕ → List Field → List ℕ → Message

@@ -1,7 +1,7 @@
 // What a head says of its message, whatever the protocol (RFC 9110, sections 8.3, 8.4 and 15).
 ghost use Rattle.std.specs.Prelude.{◌≡◌};
 ghost use Rattle.std.specs.Option.{option_map};
-ghost use Rattle.sm_messages.specs.Heads.{bare_type, has_type, is_plain, is_right_type, is_success};
+ghost use Rattle.sm_messages.specs.Heads.{bare_type, has_type, is_empty, is_plain, is_right_type, is_success};
 
 use sm_bytes::{ByteClass, run_len};
 use sm_http::{Head, Start, folds_to, trim};
@@ -73,5 +73,15 @@ pub fn is_success(start: &Start) -> bool
     match start {
         Start::Request { .. } => false,
         Start::Response { status } => 200 <= *status && *status <= 299,
+    }
+}
+
+/// Whether a body has no bytes. No memory.
+pub fn is_empty(body: &[u8]) -> bool
+    ensures { result ≡ is_empty body.now }
+{
+    match body {
+        [] => true,
+        _ => false,
     }
 }

@@ -10,9 +10,10 @@ ghost use Rattle.sm_tree.specs.View.{members_view, node_of};
 ghost use Rattle.sm_service.specs.ErrorOrder.{place_named};
 ghost use Rattle.sm_service.specs.ServiceData.{name_of_error};
 ghost use Rattle.sm_service.specs.ServiceView.{operations_view};
-ghost use Rattle.sm_messages.specs.Names.{AreErrorIds, error_name, text_among, text_under, without_namespace};
+ghost use Rattle.sm_messages.specs.Names.{AreErrorIds, error_name, text_among, text_under, told_by_body, told_by_head, without_namespace};
 
 use sm_bytes::{ByteClass, run_len};
+use sm_http::Head;
 use sm_service::{Errors, Operation, Operations};
 use sm_tree::{Text, Tree};
 use std::cmp::Ordering;
@@ -132,6 +133,23 @@ fn text_among<'a>(pairs: &'a [(Text, Tree)], name: &str) -> Option<&'a str>
         }
     }
     None
+}
+
+/// The text that a head tells an error with, where a field may: that of the first `x-amzn-errortype`. No memory.
+pub fn told_by_head(head: &Head) -> Option<&[u8]>
+    ensures { option_map (λ text. text.now) result ≡ told_by_head head.now }
+{
+    head.fields.first("x-amzn-errortype")
+}
+
+/// The text that a body tells an error with: the first under `__type`, else the first under `code`. No memory.
+pub fn told_by_body(tree: &Tree) -> Option<&str>
+    ensures { option_map (λ text. text.now) result ≡ told_by_body (node_of tree.now) }
+{
+    match text_under(tree, "__type") {
+        Some(text) => Some(text),
+        None => text_under(tree, "code"),
+    }
 }
 
 /// What stands behind a text that another begins with. No memory.
