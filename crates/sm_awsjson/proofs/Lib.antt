@@ -1,0 +1,4 @@
+pub mod AwsForm
+pub mod AwsWritten
+pub mod Targets
+pub mod AwsBodies

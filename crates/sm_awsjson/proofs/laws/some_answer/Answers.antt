@@ -1,0 +1,7 @@
+use Rattle.sm_messages.proofs.SomeMessage.{some_message}
+use Rattle.sm_awsjson.specs.Messages.{aws_form}
+use Rattle.sm_awsjson.proofs.AwsForm.{aws_reads}
+use Rattle.sm_awsjson.proofs.laws.some_answer.Goals as goal
+
+pub returns : goal.returns
+returns c = λ version. some_message (aws_form version) (aws_reads version)
