@@ -1,0 +1,4 @@
+pub mod RpcForm
+pub mod RpcWritten
+pub mod Paths
+pub mod RpcBodies

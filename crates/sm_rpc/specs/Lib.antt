@@ -1,0 +1,3 @@
+pub mod Heads
+pub mod Messages
+pub mod Begun
