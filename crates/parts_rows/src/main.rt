@@ -3,6 +3,7 @@
 #![tactic(auto)]
 
 mod play;
+mod routes;
 mod show;
 mod values;
 

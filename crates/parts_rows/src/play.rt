@@ -1,4 +1,5 @@
 // The answer to each case.
+use crate::routes::route;
 use crate::show::{show_entry, show_text};
 use crate::values::value_at;
 use rows::{bytes_shown, push_comma};
@@ -14,6 +15,9 @@ pub fn answer_to(alloc: Global, row: &str, out: &mut String) -> Result<(), NoMem
         Some((word, rest)) => (word, rest),
         None => (row, ""),
     };
+    if word == "route" {
+        return route(alloc, rest, out);
+    }
     match word.strip_suffix("-bytes") {
         Some(word) => match bytes_shown(alloc, rest)? {
             Some(bytes) => answer(alloc, word, &bytes, out),

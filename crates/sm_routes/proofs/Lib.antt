@@ -1,0 +1,10 @@
+mod RouteOrder
+mod KeptRows
+mod PassedRows
+mod Scanned
+mod Walked
+mod Placed
+mod PathPieces
+mod QueryLiterals
+mod WrittenPieces
+mod LabelsRead
