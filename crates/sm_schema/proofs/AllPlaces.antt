@@ -1,8 +1,6 @@
 -- The laws of schemas: by induction on the tree, over all places that have a definition.
-use Rattle.std.proofs.Common.{◌≡◌, ◌⊎◌, inl, inr, ℕ, ◌^◌, ◌<◌, Bool, true, false, Option, List, [], ◌∷◌, ◌++◌, length, map, refl, sym, ap, ◌∙◌}
+use Rattle.std.proofs.Common.{◌≡◌, inl, inr, ℕ, ◌^◌, ◌<◌, Bool, true, false, List, [], ◌∷◌, length, map, refl, sym, ap, ◌∙◌}
 use Rattle.std.proofs.Common.{subst, codes, slice_index_or}
-use Rattle.std.specs.List.{Contains}
-use Rattle.sm_time.specs.declared.format.Format.{Format}
 use Rattle.sm_tree.specs.Json.{IsJson, AreJson, AreJsonMembers}
 use Rattle.sm_tree.specs.Node.{Node, Nodes, Members, null, bool, int, number, text, bytes, tag, opaque, list, object, no_nodes, node}
 use Rattle.sm_tree.specs.Node.{no_members, member}
@@ -10,8 +8,7 @@ use Rattle.sm_tree.specs.Same.{HasDistinctNames, HaveDistinctNames, AreDistinct}
 use Rattle.sm_shapes.specs.Fitting.{Test}
 use Rattle.sm_shapes.specs.InOrder.{Shaped, DefaultsPass, HasItsMembers}
 use Rattle.sm_shapes.specs.Names.{AllDiffer}
-use Rattle.sm_shapes.specs.Places.{Place, root_place, member_place, shape_of, kind_of, members_of_place, format_of, entry_place, key_place}
-use Rattle.sm_shapes.specs.Places.{value_place}
+use Rattle.sm_shapes.specs.Places.{Place, root_place, member_place, shape_of, kind_of, members_of_place, format_of}
 use Rattle.sm_shapes.specs.declared.kinds.ShapeKind.{ShapeKind}
 use Rattle.sm_shapes.specs.declared.kinds.ShapeKind.TheVariants as kinds
 use Rattle.sm_codec.specs.Codec.{Codec, InTable}
@@ -19,15 +16,15 @@ use Rattle.sm_codec.specs.FaultLists.{faults_in}
 use Rattle.sm_codec.specs.Readings.{children, named_children, leaf_by, list_by, object_by}
 use Rattle.sm_codec.specs.Sorts.{sort_by}
 use Rattle.sm_codec.proofs.JsonLaws.{json_laws}
-use Rattle.sm_codec.proofs.PlacesIn.{shape_in, members_stand, entry_in, value_in, key_in, key_text}
+use Rattle.sm_codec.proofs.PlacesIn.{shape_in, members_stand, entry_in, value_in, key_text}
 use Rattle.sm_schema.specs.Keywords.{is_of_type}
 use Rattle.sm_tree.specs.Size.{node_size}
 use Rattle.sm_shapes.specs.TableData.{TableData}
 use Rattle.sm_schema.specs.Valid.{accepts, is_valid, refers_by, instance_of, elements_of, properties_of}
 use Rattle.sm_schema.specs.Definitions.{Listed, Listing}
 use Rattle.sm_schema.specs.Described.{definition, definition_by, name_of, schema_tree, IsSchema}
-use Rattle.sm_schema.specs.SchemaLaws.{AllTold, LeadsBy, HasNoNumber, HaveNoNumber, HaveNoNumberUnder}
-use Rattle.sm_schema.specs.SchemaLaws.{SpelledIsValid, ValidIsSpelled, OneSchema}
+use Rattle.sm_schema.specs.SchemaLaws.{AllTold, HasNoNumber, HaveNoNumber, HaveNoNumberUnder}
+use Rattle.sm_schema.specs.SchemaLaws.{HasFew, SpelledIsValid, ValidIsSpelled, OneSchema}
 use Rattle.sm_schema.proofs.Instances.{codec, asked_by, IsAccepted, IsClean}
 use Rattle.sm_schema.proofs.LeafPlaces.{leaf_accepted, leaf_spelled, IsOther}
 use Rattle.sm_schema.proofs.LeafDefinitions.{asked_of}
@@ -308,28 +305,29 @@ listing t json_names places = record { table = t; json_names = json_names; place
 
 -- the whole schema says what the definition of the shape says
 root_says : (t : TableData) (json_names : Bool) (test : Test) (s : ℕ) (schema n : Node) (is : IsSchema t json_names s schema)
-    → accepts (asked_by (listing t json_names is.places) test is.few
+    (few : HasFew t json_names s schema is)
+    → accepts (asked_by (listing t json_names is.places) test few
     (λ w. refers_by test (schema_tree (listing t json_names is.places))
     (instance_of test (schema_tree (listing t json_names is.places)) n) (node_size (schema_tree (listing t json_names is.places))) w) n)
     (definition (listing t json_names is.places) (root_place s)) ≡ is_valid test schema n
-root_says t json_names test s schema n is =
+root_says t json_names test s schema n is few =
     let d = listing t json_names is.places in
     let first = first_listed t is.turns s is.places is.listed in
-    sym (whole_says d test is.few (instance_of test (schema_tree d) n) (root_place s) first.0 first.1)
+    sym (whole_says d test few (instance_of test (schema_tree d) n) (root_place s) first.0 first.1)
     ∙ ap (λ x. is_valid test x n) (sym is.is)
 
 pub spelled_is_valid : SpelledIsValid
-spelled_is_valid t json_names test s schema n shaped defaults inside is document h =
+spelled_is_valid t json_names test s schema n shaped defaults inside is few document h =
     let d = listing t json_names is.places in
-    sym (root_says t json_names test s schema n is)
-    ∙ accepted d test is.few is.turns s shaped is.listed defaults n document.1 (root_place s) _ inside
+    sym (root_says t json_names test s schema n is few)
+    ∙ accepted d test few is.turns s shaped is.listed defaults n document.1 (root_place s) _ inside
     (root_listed t is.turns s is.places is.listed) h
 
 pub valid_is_spelled : ValidIsSpelled
-valid_is_spelled t json_names test s schema n shaped inside is told document none h =
+valid_is_spelled t json_names test s schema n shaped inside is few told document none h =
     let d = listing t json_names is.places in
-    clean d test is.few is.turns s shaped is.listed n document.1 document.0 none (root_place s) _ inside
-    (root_listed t is.turns s is.places is.listed) told (root_says t json_names test s schema n is ∙ h)
+    clean d test few is.turns s shaped is.listed n document.1 document.0 none (root_place s) _ inside
+    (root_listed t is.turns s is.places is.listed) told (root_says t json_names test s schema n is few ∙ h)
 
 pub one_schema : OneSchema
 one_schema t json_names s a b is also =

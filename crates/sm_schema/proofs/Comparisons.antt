@@ -1,6 +1,6 @@
 -- Tests of whole numbers, and of bounds: what a schema's bounds say is what a table's bounds ask for.
-use Rattle.std.proofs.Common.{◌≡◌, ℕ, zero, suc, ◌-◌, ◌^◌, ◌<◌, ◌≤◌, ℤ, pos, negsuc, ◌*ℤ◌, ◌≤ℤ◌, Bool, true, false, ◌&&◌, cond, Option}
-use Rattle.std.proofs.Common.{Some, None, int_le, int_eq, nat_lt, leb, ltb, refl, sym, ap, ◌∙◌, subst, arith, Decides}
+use Rattle.std.proofs.Common.{◌≡◌, ℕ, ◌-◌, ◌^◌, ◌<◌, ℤ, pos, negsuc, ◌*ℤ◌, ◌≤ℤ◌, Bool, true, false, ◌&&◌, cond, Option}
+use Rattle.std.proofs.Common.{Some, None, int_le, int_eq, nat_lt, leb, refl, sym, ap, ◌∙◌, subst, arith}
 use Rattle.std.proofs.lemmas.Bool.{and_parts, and_from, ltb-true, leb-true, leb-false, lt-ltb, le-leb}
 use Rattle.std.proofs.lemmas.Bool.Decides.{Decides-int_eq}
 use Rattle.std.proofs.lemmas.Int.{ints}

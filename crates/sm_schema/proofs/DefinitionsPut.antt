@@ -1,7 +1,6 @@
 -- Definitions that are put one behind the other.
-use Rattle.std.proofs.Common.{◌≡◌, ◌+◌, ◌<◌, ℕ, zero, suc, List, [], ◌∷◌, length, map, drop, get_or, sym, ap, ◌∙◌, subst, arith}
+use Rattle.std.proofs.Common.{◌≡◌, ◌<◌, ℕ, zero, suc, List, [], ◌∷◌, length, map, drop, get_or, sym, ap, ◌∙◌, subst, arith}
 use Rattle.sm_tree.specs.Node.{Node, Members, member}
-use Rattle.sm_shapes.specs.Places.{Place}
 use Rattle.sm_codec.specs.PlaceView.{place_of}
 use Rattle.sm_codec.specs.declared.places.ValuePlace.{ValuePlace}
 use Rattle.sm_schema.specs.Definitions.{Listing, definition_name}

@@ -1,7 +1,7 @@
 -- Equal trees spell the same values.
-use Rattle.std.proofs.Common.{◌≡◌, ◌⊎◌, inl, inr, ℕ, ℤ, Bool, true, false, ◌&&◌, cond, Option, Some, None, is_some, List, [], ◌∷◌, ◌++◌, if◌then◌else◌}
+use Rattle.std.proofs.Common.{◌≡◌, inl, inr, ℕ, Bool, true, false, Some, is_some, List, [], ◌∷◌, if◌then◌else◌}
 use Rattle.std.proofs.Common.{refl, sym, ap, ◌∙◌, subst}
-use Rattle.std.specs.Prelude.{Ok, Err, Result}
+use Rattle.std.specs.Prelude.{Ok}
 use Rattle.std.specs.List.{Contains}
 use Rattle.std.specs.Str.{bytes_eq}
 use Rattle.std.proofs.lemmas.Bool.{and_parts}
@@ -9,7 +9,7 @@ use Rattle.std.proofs.lemmas.Bool.Decides.{Decides-int_eq}
 use Rattle.std.proofs.lemmas.Slice.Eq.{bytes_eq-Decides}
 use Rattle.sm_time.specs.declared.format.Format.{Format}
 use Rattle.sm_time.specs.declared.format.Format.TheVariants.{DateTime, HttpDate, EpochSeconds}
-use Rattle.sm_tree.specs.Node.{Node, Nodes, Members, null, bool, int, number, text, bytes, tag, opaque, list, object, no_nodes, node}
+use Rattle.sm_tree.specs.Node.{Node, Nodes, Members, null, bool, int, number, text, list, object, no_nodes, node}
 use Rattle.sm_tree.specs.Node.{no_members, member, nodes_of, members_of}
 use Rattle.sm_tree.specs.Parts.{tree_named}
 use Rattle.sm_tree.specs.Same.{HasPair}
@@ -35,7 +35,7 @@ use Rattle.sm_codec.proofs.ChildLists.{each_node, each_pair, nodes_back, members
 use Rattle.sm_schema.specs.Equal.{trees_named, is_one, same_bool, same_number, equal_trees, entries_equal, pairs_equal, are_named}
 use Rattle.sm_schema.specs.SchemaLaws.{json_codec}
 use Rattle.sm_schema.proofs.Comparisons.{alike}
-use Rattle.sm_schema.proofs.Pairs.{pair_of, first_of, first_named, pairs_named}
+use Rattle.sm_schema.proofs.Pairs.{pair_of, first_named, pairs_named}
 
 -- null is equal to null alone
 left_null : (m : Node) → equal_trees null m ≡ true → is_null m ≡ true

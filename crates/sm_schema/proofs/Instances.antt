@@ -1,23 +1,20 @@
 -- An instance within another, by the reference to the definition of its place: what holds of each tree by itself holds of it there.
-use Rattle.std.proofs.Common.{◌≡◌, ℕ, ◌^◌, ◌<◌, Bool, true, false, cond, List, [], ◌∷◌, length, refl, sym, ap, ◌∙◌, subst}
+use Rattle.std.proofs.Common.{◌≡◌, ℕ, ◌^◌, ◌<◌, Bool, true, false, cond, List, [], length, refl, sym, ap, ◌∙◌}
 use Rattle.std.specs.Prelude.{Ok, Err}
-use Rattle.sm_tree.specs.Json.{IsJson}
-use Rattle.sm_tree.specs.Node.{Node, Nodes, Members, null, bool, int, number, text, bytes, tag, opaque, list, object}
-use Rattle.sm_tree.specs.Same.{HasDistinctNames}
+use Rattle.sm_tree.specs.Node.{Node, null, bool, int, number, text, bytes, tag, opaque, list, object}
 use Rattle.sm_shapes.specs.Values.{null_val}
 use Rattle.sm_shapes.specs.Fitting.{Test}
 use Rattle.sm_shapes.specs.Places.{Place}
 use Rattle.sm_shapes.specs.declared.fault.FaultKind.TheVariants.{Null}
 use Rattle.sm_codec.specs.Codec.{Codec, InTable}
-use Rattle.sm_codec.specs.FaultLists.{Reading, faults_in}
+use Rattle.sm_codec.specs.FaultLists.{faults_in}
 use Rattle.sm_codec.specs.Named.{is_null}
-use Rattle.sm_codec.specs.Readings.{Child, child_of, entry_reading, faults, one_here, reading}
+use Rattle.sm_codec.specs.Readings.{child_of, entry_reading, faults, one_here, reading}
 use Rattle.sm_codec.proofs.ChildLists.{null_is}
-use Rattle.sm_schema.specs.Keywords.{Instance}
 use Rattle.sm_schema.specs.Valid.{Asked, accepts, asked, instance_of}
 use Rattle.sm_schema.specs.Definitions.{Listing, reference}
 use Rattle.sm_schema.specs.Described.{definition, schema_tree, nullable, nullable_if}
-use Rattle.sm_schema.specs.SchemaLaws.{json_codec, AllTold, HasNoNumber}
+use Rattle.sm_schema.specs.SchemaLaws.{json_codec, AllTold}
 use Rattle.sm_schema.proofs.PlacesListed.{IsListed}
 use Rattle.sm_schema.proofs.References.{refers_to, refuses_null, takes_null, takes_other}
 

@@ -1,24 +1,20 @@
 -- What the definitions of simple values say of a tree, and that it is what the place asks for.
-use Rattle.std.proofs.Common.{◌≡◌, ℕ, ◌-◌, ◌^◌, ◌<◌, ℤ, pos, Bool, true, false, ◌&&◌, ◌||◌, cond, Option, Some, None, List, [], ◌∷◌, ◌++◌}
-use Rattle.std.proofs.Common.{length, int_le, int_eq, refl, sym, ap, ◌∙◌, subst, arith, codes}
-use Rattle.std.specs.Prelude.{Result, Ok, Err, unwrap_or}
+use Rattle.std.proofs.Common.{◌≡◌, ℕ, ◌-◌, ◌^◌, ◌<◌, ℤ, pos, Bool, true, false, ◌&&◌, ◌||◌, Option, Some, None, List, [], ◌∷◌, ◌++◌}
+use Rattle.std.proofs.Common.{length, int_le, int_eq, refl, sym, ap, ◌∙◌, arith, codes}
 use Rattle.std.specs.List.{list_any}
-use Rattle.std.specs.Str.{bytes_eq, chars, is_utf8}
-use Rattle.sm_time.specs.declared.format.Format.{Format}
-use Rattle.sm_time.specs.declared.format.Format.TheVariants.{DateTime, HttpDate, EpochSeconds}
-use Rattle.sm_tree.specs.Node.{Node, Nodes, Members, null, bool, int, number, text, bytes, tag, opaque, list, object, no_nodes, node}
-use Rattle.sm_tree.specs.Node.{no_members, member}
-use Rattle.sm_shapes.specs.Values.{Val, bool_val, int_val, text_val}
+use Rattle.std.specs.Str.{bytes_eq, chars}
+use Rattle.sm_tree.specs.Node.{Node, Members, int, text, list}
+use Rattle.sm_tree.specs.Node.{member}
+use Rattle.sm_shapes.specs.Values.{int_val, text_val}
 use Rattle.sm_shapes.specs.TableData.{TableData, ConstraintData, pattern_at}
 use Rattle.sm_shapes.specs.Broken.{is_at_least, is_at_most, is_between, unless, length_broken, range_broken, pattern_broken, broken}
 use Rattle.sm_shapes.specs.Fitting.{Test, finder}
-use Rattle.sm_shapes.specs.declared.kinds.ShapeKind.{ShapeKind}
 use Rattle.sm_shapes.specs.declared.kinds.ShapeKind.TheVariants as kinds
 use Rattle.sm_shapes.specs.declared.fault.FaultKind.{FaultKind}
 use Rattle.sm_shapes.specs.declared.fault.FaultKind.TheVariants.{Length, Range, Pattern, Enum}
 use Rattle.sm_codec.specs.Convention.{fits_bits}
 use Rattle.sm_schema.specs.Decimals.{number_le}
-use Rattle.sm_schema.specs.Keywords.{Part, Property, Instance, is_among, min_length_holds, max_length_holds}
+use Rattle.sm_schema.specs.Keywords.{Part, Property, is_among}
 use Rattle.sm_schema.specs.Valid.{Asked, accepts, all_hold}
 use Rattle.sm_schema.specs.Described.{with_bound, with_pattern, text_keywords, text_nodes, number_nodes, range_keywords, typed, whole_number}
 use Rattle.sm_schema.specs.Described.{narrow_min, narrow_max, least_of, greatest_of}

@@ -1,24 +1,23 @@
 -- Trees that are no list and no object where those are asked for, at a place of each kind: without a fault they are accepted, and
 -- accepted they have none.
-use Rattle.std.proofs.Common.{◌≡◌, ◌⊎◌, inl, inr, ℕ, ◌-◌, ◌^◌, ◌<◌, ℤ, Bool, true, false, ◌&&◌, ◌||◌, cond, Option, Some, None, List, []}
+use Rattle.std.proofs.Common.{◌≡◌, ℕ, ◌-◌, ◌^◌, ◌<◌, ℤ, Bool, true, false, ◌&&◌, cond, List, []}
 use Rattle.std.proofs.Common.{◌∷◌, ◌++◌, codes, refl, sym, ap, ◌∙◌, subst, arith}
-use Rattle.std.specs.Prelude.{Result, Ok, Err, unwrap_or}
-use Rattle.std.specs.Str.{bytes_eq, is_utf8}
+use Rattle.std.specs.Prelude.{Ok, Err, unwrap_or}
+use Rattle.std.specs.Str.{is_utf8}
 use Rattle.std.proofs.lemmas.Bool.{and_parts, and_from}
 use Rattle.std.proofs.lemmas.Str.{is_utf8-from_IsUtf8}
 use Rattle.sm_time.specs.declared.format.Format.{Format}
 use Rattle.sm_time.specs.declared.format.Format.TheVariants.{DateTime, HttpDate, EpochSeconds}
 use Rattle.sm_tree.specs.Json.{IsJson}
-use Rattle.sm_tree.specs.Node.{Node, Nodes, Members, null, bool, int, number, text, bytes, tag, opaque, list, object, no_nodes, node}
+use Rattle.sm_tree.specs.Node.{Node, Members, null, bool, int, number, text, bytes, tag, opaque, list, object}
 use Rattle.sm_tree.specs.Node.{no_members, member}
 use Rattle.sm_shapes.specs.Values.{Val, bool_val, int_val, text_val}
-use Rattle.sm_shapes.specs.TableData.{TableData, ConstraintData}
+use Rattle.sm_shapes.specs.TableData.{ConstraintData}
 use Rattle.sm_shapes.specs.Places.{Place, kind_of, constraints_of, format_of}
 use Rattle.sm_shapes.specs.Broken.{range_broken, broken}
 use Rattle.sm_shapes.specs.Fitting.{Test, finder}
 use Rattle.sm_shapes.specs.declared.kinds.ShapeKind.{ShapeKind}
 use Rattle.sm_shapes.specs.declared.kinds.ShapeKind.TheVariants as kinds
-use Rattle.sm_shapes.specs.declared.fault.FaultKind.{FaultKind}
 use Rattle.sm_shapes.specs.declared.fault.FaultKind.TheVariants.{WrongType, Width}
 use Rattle.sm_codec.specs.Convention.{fits_bits}
 use Rattle.sm_codec.specs.Conventions.{read_boolean, read_text, read_number, read_base64, json_time}
@@ -26,7 +25,7 @@ use Rattle.sm_codec.specs.Codec.{Codec}
 use Rattle.sm_codec.specs.FaultLists.{FaultAt, here, faults_in, settled}
 use Rattle.sm_codec.specs.Readings.{leaf_reading, leaf_by}
 use Rattle.sm_codec.specs.Sorts.{sort_by}
-use Rattle.sm_codec.proofs.NoFaults.{none_here, none_first}
+use Rattle.sm_codec.proofs.NoFaults.{none_here}
 use Rattle.sm_schema.specs.Keywords.{Part, Property, is_of_type}
 use Rattle.sm_schema.specs.Valid.{accepts}
 use Rattle.sm_schema.specs.Definitions.{Listing}

@@ -14,6 +14,8 @@ mod Structures
 mod Unions
 mod AllPlaces
 mod NumberedPlaces
+mod PlacesEnd
 mod JoinedParts
 mod OkParts
+mod PlainTrees
 mod DefinitionsPut

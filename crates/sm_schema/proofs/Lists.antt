@@ -1,22 +1,19 @@
 -- A list at a place of lists: without a fault it is accepted, and accepted it has none.
-use Rattle.std.proofs.Common.{◌≡◌, ◌⊎◌, inl, inr, ℕ, zero, suc, ◌+◌, ◌^◌, ◌<◌, ℤ, pos, Bool, true, false, ◌&&◌, ◌||◌, not, cond, Option, Some}
-use Rattle.std.proofs.Common.{None, List, [], ◌∷◌, ◌++◌, length, codes, refl, sym, ap, ◌∙◌, subst, arith}
-use Rattle.std.specs.Prelude.{Ok, Err, Result}
+use Rattle.std.proofs.Common.{◌≡◌, ℕ, suc, ◌^◌, ◌<◌, ℤ, pos, Bool, true, false, ◌&&◌, ◌||◌, not, cond, Option, Some}
+use Rattle.std.proofs.Common.{None, List, [], ◌∷◌, ◌++◌, length, codes, refl, sym, ap, ◌∙◌, subst}
+use Rattle.std.specs.Prelude.{Ok, Err}
 use Rattle.std.specs.List.{list_all, list_any}
-use Rattle.std.specs.Str.{bytes_eq, is_utf8}
+use Rattle.std.specs.Str.{is_utf8}
 use Rattle.std.proofs.lemmas.Bool.Decides.{Decides-int_eq}
 use Rattle.std.proofs.lemmas.Slice.Eq.{bytes_eq-Decides}
 use Rattle.sm_codec.proofs.ChildLists.{null_is}
 use Rattle.std.proofs.lemmas.Bool.{and_parts, and_from, or_parts, or_from, false_from_ne_true}
-use Rattle.sm_tree.specs.Json.{IsJson, AreJson}
-use Rattle.sm_tree.specs.Node.{Node, Nodes, Members, null, bool, int, number, text, bytes, tag, opaque, list, object, no_nodes, node, no_members, member}
-use Rattle.sm_tree.specs.Same.{HasDistinctNames, HaveDistinctNames}
+use Rattle.sm_tree.specs.Node.{Node, Nodes, Members, null, bool, int, number, text, bytes, tag, opaque, list, object, no_nodes, node, member}
 use Rattle.sm_tree.specs.declared.path.Step.TheVariants.{Index}
 use Rattle.sm_shapes.specs.Broken.{is_at_least, is_at_most, is_between, length_broken, has_twice}
 use Rattle.sm_shapes.specs.Fitting.{Test}
 use Rattle.sm_shapes.specs.InOrder.{Shaped, DefaultsPass}
-use Rattle.sm_shapes.specs.Places.{Place, kind_of, members_of_place, constraints_of, unique_of, sparse_of, entry_place, format_of}
-use Rattle.sm_shapes.specs.TableData.{ConstraintData}
+use Rattle.sm_shapes.specs.Places.{Place, kind_of, constraints_of, unique_of, sparse_of, entry_place, format_of}
 use Rattle.sm_shapes.specs.Values.{Val, null_val, bool_val, int_val, text_val, blob_val, time_val, map_val, structure_val, union_val, list_val, vals_of, same_val}
 use Rattle.sm_shapes.specs.declared.kinds.ShapeKind.{ShapeKind}
 use Rattle.sm_shapes.specs.declared.kinds.ShapeKind.TheVariants as kinds
@@ -28,15 +25,15 @@ use Rattle.sm_codec.specs.Convention.{fits_bits}
 use Rattle.sm_codec.specs.Conventions.{json_read}
 use Rattle.sm_codec.specs.Sorts.{simple, sort_by}
 use Rattle.sm_codec.specs.Codec.{Codec, InTable, sort_at, broken_at}
-use Rattle.sm_codec.specs.FaultLists.{FaultAt, here, under, Reading, faults_in, values_in, settled}
-use Rattle.sm_codec.specs.Readings.{Child, child_of, children, entry_reading, entries_faults, entries_values, unique_faults, list_faults}
+use Rattle.sm_codec.specs.FaultLists.{FaultAt, here, under, Reading, faults_in, values_in}
+use Rattle.sm_codec.specs.Readings.{child_of, children, entry_reading, entries_faults, entries_values, unique_faults, list_faults}
 use Rattle.sm_codec.specs.Named.{is_null}
 use Rattle.sm_codec.specs.Readings.{list_reading, one_here, reading, leaf_reading, leaf_by, list_by, object_by, named_children}
 use Rattle.sm_shapes.proofs.SameVals.{same_is, same_itself}
 use Rattle.sm_codec.proofs.NoFaults.{none_first, none_behind, none_joined, none_under, none_here, IsReading, reading_is}
 use Rattle.sm_codec.proofs.NoFaults.{clean_reading, ok_reading, same_reading, settled_ok}
 use Rattle.sm_schema.specs.Equal.{count_entries, equal_trees}
-use Rattle.sm_schema.specs.Keywords.{Part, none_equals, all_differ}
+use Rattle.sm_schema.specs.Keywords.{none_equals, all_differ}
 use Rattle.sm_schema.specs.Valid.{accepts, all_hold, elements_of}
 use Rattle.sm_schema.specs.Definitions.{Listing, reference}
 use Rattle.sm_schema.specs.SchemaLaws.{AllTold, IsPlainKind}

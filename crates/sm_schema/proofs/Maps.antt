@@ -1,11 +1,11 @@
 -- An object at a place of maps: without a fault it is accepted, and accepted it has none.
-use Rattle.std.proofs.Common.{◌≡◌, ◌⊎◌, inl, inr, ℕ, ◌^◌, ◌<◌, ℤ, pos, Bool, true, false, ◌&&◌, ◌||◌, cond, Option, Some, None, is_some}
+use Rattle.std.proofs.Common.{◌≡◌, inl, inr, ℕ, ◌^◌, ◌<◌, ℤ, pos, Bool, true, false, ◌&&◌, ◌||◌, cond, Option, Some, None, is_some}
 use Rattle.std.proofs.Common.{List, [], ◌∷◌, ◌++◌, length, codes, refl, sym, ap, ◌∙◌, subst}
-use Rattle.std.specs.Prelude.{Ok, Err, Result, IsUtf8}
+use Rattle.std.specs.Prelude.{Ok, Err, IsUtf8}
 use Rattle.std.specs.List.{list_all}
 use Rattle.std.specs.Str.{is_utf8}
 use Rattle.std.proofs.lemmas.Bool.{and_parts, and_from}
-use Rattle.sm_tree.specs.Json.{IsJson, AreJsonMembers}
+use Rattle.sm_tree.specs.Json.{AreJsonMembers}
 use Rattle.sm_tree.specs.Node.{Node, Members, text, object, no_members, member}
 use Rattle.sm_tree.specs.Parts.{tree_named}
 use Rattle.sm_tree.specs.Same.{HasPair, AreDistinct}
@@ -14,23 +14,23 @@ use Rattle.sm_shapes.specs.Broken.{is_at_least, is_at_most, is_between, length_b
 use Rattle.sm_shapes.specs.Fitting.{Test}
 use Rattle.sm_shapes.specs.InOrder.{IsTextKind}
 use Rattle.sm_shapes.specs.Places.{Place, kind_of, constraints_of, format_of, sparse_of, key_place, value_place}
-use Rattle.sm_shapes.specs.Values.{Val, text_val, map_val, entries_of}
+use Rattle.sm_shapes.specs.Values.{text_val, map_val, entries_of}
 use Rattle.sm_shapes.specs.declared.kinds.ShapeKind.{ShapeKind}
 use Rattle.sm_shapes.specs.declared.kinds.ShapeKind.TheVariants as kinds
 use Rattle.sm_shapes.specs.declared.fault.FaultKind.TheVariants.{Length, WrongType}
 use Rattle.sm_codec.specs.Codec.{Codec, InTable, broken_at}
-use Rattle.sm_codec.specs.FaultLists.{FaultAt, here, under, Reading, faults_in, settled}
+use Rattle.sm_codec.specs.FaultLists.{here, under, Reading, faults_in}
 use Rattle.sm_codec.specs.Named.{named, names_of, in_byte_order}
 use Rattle.sm_codec.specs.Readings.{Child, child_of, children_of, named_children, entry_reading, key_faults, pair_faults, keys_faults}
 use Rattle.sm_codec.specs.Readings.{pairs_faults, pairs_values, map_faults, map_reading, leaf_by, leaf_reading, one_here}
 use Rattle.sm_codec.specs.Sorts.{sort_by}
 use Rattle.sm_codec.proofs.KeyOrder.{IsIn, ordered_is, is_ordered}
 use Rattle.sm_codec.proofs.NoFaults.{none_first, none_behind, none_joined, none_under, none_here}
-use Rattle.sm_schema.specs.Equal.{trees_named, count_pairs}
-use Rattle.sm_schema.specs.Keywords.{Property, schemas_of}
+use Rattle.sm_schema.specs.Equal.{count_pairs}
+use Rattle.sm_schema.specs.Keywords.{schemas_of}
 use Rattle.sm_schema.specs.Valid.{accepts, all_hold, asked, leaf_instance, properties_of}
 use Rattle.sm_schema.specs.Definitions.{Listing, reference}
-use Rattle.sm_schema.specs.Described.{definition, definition_by, with_bound, map_definition, nullable_if}
+use Rattle.sm_schema.specs.Described.{with_bound, map_definition, nullable_if}
 use Rattle.sm_schema.specs.SchemaLaws.{AllTold}
 use Rattle.sm_schema.proofs.Comparisons.{and_true, ints_le}
 use Rattle.sm_schema.proofs.LeafDefinitions.{nil_unless, nil_is, is_nil_of}
@@ -38,8 +38,8 @@ use Rattle.sm_schema.proofs.LeafPlaces.{faults_settled, leaf_accepted, leaf_spel
 use Rattle.sm_schema.proofs.Pairs.{AllPairs, of_pair, alone_named, children_named}
 use Rattle.sm_schema.proofs.PlacesListed.{IsListed}
 use Rattle.sm_schema.proofs.References.{behind, refers_to}
-use Rattle.sm_schema.proofs.Instances.{root, codec, asked_by, says, IsAccepted, IsClean, entry_accepted, entry_clean}
-use Rattle.sm_schema.proofs.Properties.{property_of, all_properties, each_property, among_names, pair_among, ordered_length}
+use Rattle.sm_schema.proofs.Instances.{root, codec, asked_by, IsAccepted, IsClean, entry_accepted, entry_clean}
+use Rattle.sm_schema.proofs.Properties.{all_properties, each_property, among_names, pair_among, ordered_length}
 
 module _ (d : Listing) (test : Test) (few : length d.places < 2 ^ 64) where
   abbrev c : Codec

@@ -1,8 +1,8 @@
 -- Places with their numbers, as one more is put behind them.
-use Rattle.std.proofs.Common.{◌≡◌, ◌⊎◌, inl, inr, ℕ, zero, suc, ◌<◌, ◌≤◌, ◌==◌, Bool, true, false, ◌||◌, cond, Option, Some, None, List, [], ◌∷◌}
+use Rattle.std.proofs.Common.{◌≡◌, ◌⊎◌, inl, inr, ℕ, zero, suc, ◌<◌, ◌≤◌, Bool, true, false, ◌||◌, cond, Option, Some, None, List, [], ◌∷◌}
 use Rattle.std.proofs.Common.{◌++◌, length, map, get_or, set, replicate, slice_get, refl, sym, ap, ◌∙◌, subst, arith, length-append}
 use Rattle.std.proofs.lemmas.List.{length-set, get_or-set_same, get_or-set_other, get_or-replicate, length-replicate, map-append, length-map}
-use Rattle.std.proofs.lemmas.Bool.{cases_eq, or_parts, eq-eqb, ne_eqb, eqb-true, false_from_ne_true}
+use Rattle.std.proofs.lemmas.Bool.{cases_eq, or_parts, eq-eqb, ne_eqb, false_from_ne_true}
 use Rattle.sm_shapes.specs.TableData.{TableData, shape_count, member_count, members_at}
 use Rattle.sm_shapes.specs.Places.{Place, root_place, member_place, shape_of, members_of_place}
 use Rattle.sm_codec.specs.Codec.{InTable}
@@ -65,7 +65,7 @@ numbered_last (r ∷ ps) p q new = by (same_place r q) refl (λ g. numbered_last
         ∙ later_cond (same_place p q) (length ps) (numbered ps q)
         ∙ ap (λ o. cond (same_place p q) (Some (suc (length ps))) o) (sym (numbered_behind r ps q e))
 
-all_in_last : (t : TableData) (ps : List Place) (p : Place) → AllIn t ps → InTable t p → AllIn t (ps ++ p ∷ [])
+pub all_in_last : (t : TableData) (ps : List Place) (p : Place) → AllIn t ps → InTable t p → AllIn t (ps ++ p ∷ [])
 all_in_last t [] p h i = (i, tt)
 all_in_last t (q ∷ ps) p h i = (h.0, all_in_last t ps p h.1 i)
 

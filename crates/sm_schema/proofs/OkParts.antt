@@ -1,8 +1,8 @@
 -- What follows of a result where it is there.
-use Rattle.std.proofs.Common.{◌≡◌, ◌<◌, ◌==◌, ℕ, zero, suc, Bool, true, false, List, [], ◌∷◌, length, codes, ap, sym, ◌∙◌, arith, IfOk, OnOk}
+use Rattle.std.proofs.Common.{◌≡◌, ◌<◌, ◌==◌, ℕ, zero, suc, Bool, false, List, [], ◌∷◌, length, codes, ap, sym, ◌∙◌, arith, IfOk, OnOk}
 use Rattle.std.specs.Prelude.{Result, Ok, Err}
 use Rattle.std.proofs.lemmas.Bool.{eqb-false}
-use Rattle.sm_tree.specs.Node.{Node, Nodes, list, no_nodes, no_members, member}
+use Rattle.sm_tree.specs.Node.{Node, list, no_nodes, no_members, member}
 use Rattle.sm_tree.specs.View.{nodes_view}
 use Rattle.sm_tree.specs.declared.tree.Tree.{Tree}
 use Rattle.sm_schema.specs.Described.{with_required}

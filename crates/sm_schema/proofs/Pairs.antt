@@ -1,6 +1,6 @@
 -- What stands under a name in an object, where no name repeats; and what holds of every entry of a list and every pair of an object.
-use Rattle.std.proofs.Common.{◌≡◌, ◌⊎◌, inl, inr, ℕ, zero, suc, Bool, true, false, ◌&&◌, cond, Option, Some, None, List, [], ◌∷◌, length}
-use Rattle.std.proofs.Common.{refl, sym, ap, ◌∙◌, subst, if◌then◌else◌, is_some}
+use Rattle.std.proofs.Common.{◌≡◌, inl, inr, ℕ, suc, Bool, true, false, cond, Option, Some, None, List, [], ◌∷◌, length}
+use Rattle.std.proofs.Common.{refl, sym, ap, ◌∙◌, subst, if◌then◌else◌}
 use Rattle.std.specs.Str.{bytes_eq}
 use Rattle.std.proofs.lemmas.Bool.{false_from_ne_true}
 use Rattle.std.proofs.lemmas.Slice.Eq.{bytes_eq-Decides}
@@ -9,7 +9,7 @@ use Rattle.sm_tree.specs.Parts.{tree_named}
 use Rattle.sm_tree.specs.Same.{HasPair, HasName, AreDistinct, HasDistinctNames}
 use Rattle.sm_codec.specs.Codec.{Codec}
 use Rattle.sm_codec.specs.Named.{named}
-use Rattle.sm_codec.specs.Readings.{Child, child_of, children, named_children, children_of}
+use Rattle.sm_codec.specs.Readings.{children, named_children, children_of}
 use Rattle.sm_codec.proofs.ChildLists.{each_pair, named_are, pairs_are}
 use Rattle.sm_schema.specs.Equal.{trees_named, count_entries}
 

@@ -1,5 +1,5 @@
 -- Where a place is listed, so are the places of its members; and a place's definition is that of the place under which it is listed.
-use Rattle.std.proofs.Common.{◌≡◌, ◌⊎◌, inl, inr, ℕ, zero, suc, ◌+◌, ◌<◌, ◌≤◌, ◌==◌, ℤ, Bool, true, false, ◌&&◌, ◌||◌, cond, Option, Some}
+use Rattle.std.proofs.Common.{◌≡◌, ◌⊎◌, inl, inr, ℕ, zero, suc, ◌<◌, ◌≤◌, ◌==◌, ℤ, Bool, true, false, ◌||◌, cond, Option, Some}
 use Rattle.std.proofs.Common.{None, List, [], ◌∷◌, ◌++◌, length, slice_get, int_eq, codes, refl, sym, ap, ◌∙◌, subst, arith}
 use Rattle.std.specs.Cmp.Lexicographic.{pointwise, pointwise_decides}
 use Rattle.std.specs.Str.{bytes_eq}
@@ -8,7 +8,7 @@ use Rattle.std.proofs.lemmas.Bool.Decides.{Decides-int_eq}
 use Rattle.std.proofs.lemmas.Slice.Eq.{bytes_eq-Decides}
 use Rattle.sm_tree.specs.Node.{Node, list, member}
 use Rattle.sm_shapes.specs.TableData.{TableData, ConstraintData, kind_at, target_at, constraints_at, shape_constraints_at}
-use Rattle.sm_shapes.specs.Places.{Place, root_place, member_place, kind_of, members_of_place, constraints_of}
+use Rattle.sm_shapes.specs.Places.{Place, root_place, member_place, members_of_place}
 use Rattle.sm_shapes.specs.declared.kinds.ShapeKind.{ShapeKind}
 use Rattle.sm_shapes.specs.declared.kinds.ShapeKind.TheVariants as kinds
 use Rattle.sm_schema.specs.Definitions.{same_bound, same_pattern, same_constraints, has_shapes, member_defined}
@@ -40,7 +40,7 @@ or_first : (a b : Bool) → a ≡ true → (a || b) ≡ true
 or_first true b h = refl
 or_first false b h = absurd cc
 
-has_behind : (p : Place) (ps qs : List Place) → Has ps p → Has (ps ++ qs) p
+pub has_behind : (p : Place) (ps qs : List Place) → Has ps p → Has (ps ++ qs) p
 has_behind p [] qs h = absurd cc
 has_behind p (q ∷ ps) qs h = by (λ e. has_behind p ps qs e) (or_cases (same_place q p) (has_place p ps) h)
   where
@@ -49,7 +49,7 @@ has_behind p (q ∷ ps) qs h = by (λ e. has_behind p ps qs e) (or_cases (same_p
     by more (inl e) = or_first (same_place q p) (has_place p (ps ++ qs)) e
     by more (inr e) = or_right (same_place q p) (has_place p (ps ++ qs)) (more e)
 
-has_last : (p : Place) (ps : List Place) → Has (ps ++ p ∷ []) p
+pub has_last : (p : Place) (ps : List Place) → Has (ps ++ p ∷ []) p
 has_last p [] = or_first (same_place p p) false (place_itself p)
 has_last p (q ∷ ps) = or_right (same_place q p) (has_place p (ps ++ p ∷ [])) (has_last p ps)
 

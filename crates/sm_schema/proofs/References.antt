@@ -1,11 +1,11 @@
 -- What a reference leads to: the definition of the place for which it was written.
-use Rattle.std.proofs.Common.{◌≡◌, ℕ, zero, suc, ◌+◌, ◌^◌, ◌<◌, ◌≤◌, ◌==◌, Bool, true, false, ◌&&◌, ◌||◌, cond, not, Option, Some, None, List}
-use Rattle.std.proofs.Common.{[], ◌∷◌, ◌++◌, length, codes, refl, sym, ap, ◌∙◌, subst, arith, decimal, if◌then◌else◌}
+use Rattle.std.proofs.Common.{◌≡◌, ℕ, suc, ◌+◌, ◌^◌, ◌<◌, ◌≤◌, ◌==◌, Bool, true, false, ◌&&◌, ◌||◌, cond, Some, List}
+use Rattle.std.proofs.Common.{[], ◌∷◌, length, codes, refl, sym, ap, ◌∙◌, arith, decimal, if◌then◌else◌}
 use Rattle.std.specs.Str.{bytes_eq}
 use Rattle.std.proofs.lemmas.Bool.{and_parts, and_left, false_from_ne_true}
 use Rattle.std.proofs.lemmas.Fmt.{decimal_injective}
 use Rattle.std.proofs.lemmas.Slice.Eq.{bytes_eq-Decides}
-use Rattle.sm_tree.specs.Node.{Node, Nodes, Members, null, bool, int, number, text, bytes, tag, opaque, list, object, no_nodes, node}
+use Rattle.sm_tree.specs.Node.{Node, Members, null, bool, int, number, text, bytes, tag, opaque, list, object}
 use Rattle.sm_tree.specs.Node.{no_members, member}
 use Rattle.sm_tree.specs.Parts.{tree_named}
 use Rattle.sm_tree.specs.Size.{node_size}
@@ -22,7 +22,7 @@ use Rattle.sm_schema.specs.Valid.{Asked, accepts, all_hold, asked, refers_by, ac
 use Rattle.sm_schema.specs.Definitions.{defined_place, number_in, has_place, same_place, Listing, definition_name, reference}
 use Rattle.sm_schema.specs.Described.{definition, definition_by, definitions, schema_tree, nullable, typed, time_type}
 use Rattle.sm_schema.proofs.Comparisons.{and_true}
-use Rattle.sm_schema.proofs.PlacesListed.{Has, IsListed, place_is, definition_same}
+use Rattle.sm_schema.proofs.PlacesListed.{IsListed, place_is, definition_same}
 use Rattle.std.specs.Prelude.{unwrap_or}
 
 -- definitions under different numbers have different names

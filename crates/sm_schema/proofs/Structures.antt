@@ -1,34 +1,33 @@
 -- An object at a place of structures: without a fault it is accepted, and accepted it has none.
-use Rattle.std.proofs.Common.{◌≡◌, ◌⊎◌, inl, inr, ℕ, ◌^◌, ◌<◌, Bool, true, false, ◌&&◌, not, cond, Option, Some, None, is_some, is_none, List}
-use Rattle.std.proofs.Common.{[], ◌∷◌, ◌++◌, length, map, codes, refl, sym, ap, ◌∙◌, subst}
-use Rattle.std.specs.Prelude.{Ok, Err, Result}
+use Rattle.std.proofs.Common.{◌≡◌, ◌⊎◌, inl, inr, ℕ, ◌^◌, ◌<◌, Bool, true, false, ◌&&◌, not, cond, Some, None, is_some, List}
+use Rattle.std.proofs.Common.{[], ◌∷◌, length, map, codes, refl, sym, ap, ◌∙◌, subst}
 use Rattle.std.specs.List.{list_all}
 use Rattle.std.proofs.lemmas.Bool.{and_parts, and_from}
-use Rattle.sm_tree.specs.Node.{Node, Nodes, Members, text, list, object, no_nodes, node, no_members, member}
+use Rattle.sm_tree.specs.Node.{Node, Nodes, Members, text, object, no_nodes, node, member}
 use Rattle.sm_tree.specs.Parts.{tree_named}
 use Rattle.sm_tree.specs.Same.{HasPair, AreDistinct}
 use Rattle.sm_tree.specs.declared.path.Step.TheVariants.{Member}
 use Rattle.sm_shapes.specs.Fitting.{Test}
 use Rattle.sm_shapes.specs.Names.{AllDiffer}
 use Rattle.sm_shapes.specs.Places.{Place, member_place, shape_of, members_of_place}
-use Rattle.sm_shapes.specs.TableData.{TableData, name_at, required_at, default_at}
+use Rattle.sm_shapes.specs.TableData.{name_at, required_at, default_at}
 use Rattle.sm_shapes.specs.Values.{structure_val, fields_of}
 use Rattle.sm_codec.specs.Codec.{Codec, InTable}
-use Rattle.sm_codec.specs.FaultLists.{FaultAt, under, Reading, faults_in}
-use Rattle.sm_codec.specs.Named.{named, is_null}
-use Rattle.sm_codec.specs.Readings.{Child, child_of, children_of, named_children, absent_reading, present_reading, member_reading}
+use Rattle.sm_codec.specs.FaultLists.{FaultAt, under, faults_in}
+use Rattle.sm_codec.specs.Named.{is_null}
+use Rattle.sm_codec.specs.Readings.{children_of, named_children, absent_reading, present_reading, member_reading}
 use Rattle.sm_codec.specs.Readings.{member_faults, members_faults, members_fields, under_names, when_closed, structure_reading, reading}
 use Rattle.sm_codec.proofs.NoFaults.{none_first, none_behind, none_joined, none_under}
 use Rattle.sm_schema.specs.Equal.{trees_named}
-use Rattle.sm_schema.specs.Keywords.{Property, accepted_by, are_names}
+use Rattle.sm_schema.specs.Keywords.{accepted_by, are_names}
 use Rattle.sm_schema.specs.Valid.{accepts, all_hold, properties_of}
 use Rattle.sm_schema.specs.Definitions.{Listing, reference}
-use Rattle.sm_schema.specs.Described.{nullable, nullable_if, must_stand, name_of, schemas_under, member_schema, required_names, with_required}
+use Rattle.sm_schema.specs.Described.{nullable_if, must_stand, name_of, schemas_under, member_schema, required_names, with_required}
 use Rattle.sm_schema.specs.Described.{structure_definition}
 use Rattle.sm_schema.specs.SchemaLaws.{AllTold}
 use Rattle.sm_schema.proofs.Comparisons.{and_true}
 use Rattle.sm_schema.proofs.LeafPlaces.{faults_settled}
-use Rattle.sm_schema.proofs.Pairs.{AllPairs, of_pair, pair_of, alone_named, never_two, first_of, first_named, children_named}
+use Rattle.sm_schema.proofs.Pairs.{AllPairs, of_pair, pair_of, alone_named, never_two, first_named, children_named}
 use Rattle.sm_schema.proofs.PlacesListed.{IsListed, IsOne}
 use Rattle.sm_schema.proofs.Instances.{root, codec, asked_by, says, IsAccepted, IsClean, referred, unreferred, null_refused, null_taken}
 use Rattle.sm_schema.proofs.Instances.{other_taken}

@@ -1,36 +1,35 @@
 -- An object at a place of unions: without a fault it is accepted, and accepted it has none.
-use Rattle.std.proofs.Common.{◌≡◌, ◌⊎◌, inl, inr, ℕ, zero, suc, ◌+◌, ◌^◌, ◌<◌, ◌==◌, Bool, true, false, ◌&&◌, not, cond, Option, Some, None}
-use Rattle.std.proofs.Common.{is_some, List, [], ◌∷◌, ◌++◌, length, map, codes, refl, sym, ap, ◌∙◌, subst, arith, if◌then◌else◌}
-use Rattle.std.specs.Prelude.{Ok, Err, Result}
-use Rattle.std.specs.List.{list_all}
+use Rattle.std.proofs.Common.{◌≡◌, ◌⊎◌, inl, inr, ℕ, ◌+◌, ◌^◌, ◌<◌, ◌==◌, Bool, true, false, ◌&&◌, not, cond, Some, None}
+use Rattle.std.proofs.Common.{is_some, List, [], ◌∷◌, ◌++◌, length, map, refl, sym, ap, ◌∙◌, subst, arith, if◌then◌else◌}
+use Rattle.std.specs.Prelude.{Ok}
 use Rattle.std.specs.Str.{bytes_eq}
 use Rattle.std.proofs.lemmas.Bool.{and_parts, and_from, eqb-true}
 use Rattle.std.proofs.lemmas.Slice.Eq.{bytes_eq-Decides}
-use Rattle.sm_tree.specs.Node.{Node, Nodes, Members, text, list, object, no_nodes, node, no_members, member}
+use Rattle.sm_tree.specs.Node.{Node, Members, object, no_members, member}
 use Rattle.sm_tree.specs.Parts.{tree_named}
 use Rattle.sm_tree.specs.Same.{HasPair, AreDistinct}
 use Rattle.sm_tree.specs.declared.path.Step.TheVariants.{Member}
 use Rattle.sm_shapes.specs.Fitting.{Test}
 use Rattle.sm_shapes.specs.Names.{AllDiffer}
 use Rattle.sm_shapes.specs.Places.{Place, member_place, shape_of, members_of_place}
-use Rattle.sm_shapes.specs.TableData.{TableData, name_at}
+use Rattle.sm_shapes.specs.TableData.{name_at}
 use Rattle.sm_shapes.specs.Values.{Val}
 use Rattle.sm_shapes.specs.declared.fault.FaultKind.TheVariants.{UnionCount}
 use Rattle.sm_codec.specs.Codec.{Codec, InTable}
-use Rattle.sm_codec.specs.FaultLists.{FaultAt, under, Reading, faults_in}
-use Rattle.sm_codec.specs.Named.{named, is_null}
+use Rattle.sm_codec.specs.FaultLists.{FaultAt, under, faults_in}
+use Rattle.sm_codec.specs.Named.{is_null}
 use Rattle.sm_codec.specs.Readings.{Child, child_of, children_of, named_children, one_here, under_names, repeated_faults, repeats, standing}
 use Rattle.sm_codec.specs.Readings.{all_standing, standing_faults, union_faults, standing_fields, union_reading_of, union_reading, reading}
 use Rattle.sm_codec.specs.Readings.{member_fields, present_reading}
 use Rattle.sm_codec.proofs.NoFaults.{none_joined, none_under, clean_reading, reading_is}
 use Rattle.sm_schema.specs.Equal.{trees_named}
-use Rattle.sm_schema.specs.Keywords.{accepted_by, are_names}
-use Rattle.sm_schema.specs.Valid.{accepts, how_many, properties_of}
+use Rattle.sm_schema.specs.Keywords.{accepted_by}
+use Rattle.sm_schema.specs.Valid.{accepts, how_many}
 use Rattle.sm_schema.specs.Definitions.{Listing, reference}
 use Rattle.sm_schema.specs.Described.{nullable, name_of, schemas_under, choice_schema, choice, choices, union_definition}
 use Rattle.sm_schema.specs.SchemaLaws.{AllTold}
 use Rattle.sm_schema.proofs.Comparisons.{and_true, alike}
-use Rattle.sm_schema.proofs.Pairs.{AllPairs, of_pair, pair_of, alone_named, never_two, first_of, first_named, children_named}
+use Rattle.sm_schema.proofs.Pairs.{AllPairs, of_pair, pair_of, alone_named, never_two, first_named, children_named}
 use Rattle.sm_schema.proofs.PlacesListed.{IsListed, IsOne}
 use Rattle.sm_schema.proofs.Instances.{root, codec, asked_by, says, IsAccepted, IsClean, referred, unreferred, null_refused, null_taken}
 use Rattle.sm_schema.proofs.Instances.{other_taken}

@@ -1,10 +1,10 @@
 -- Numbers of JSON by their value, whole or not: digits as one whole number, and the power of ten by which it is taken.
-use Rattle.std.specs.Prelude.{ℕ, ◌==◌, ◌^◌, ℤ, pos, negsuc, ◌-ℤ◌, ◌*ℤ◌, neg_ℤ, int_le, int_rem, Bool, true, false, ◌&&◌, ◌||◌, cond}
+use Rattle.std.specs.Prelude.{ℕ, ◌==◌, ◌^◌, ℤ, pos, negsuc, ◌-ℤ◌, ◌*ℤ◌, neg_ℤ, int_le, int_rem, Bool, false, ◌||◌, cond}
 use Rattle.std.specs.Prelude.{List, [], ◌∷◌, ◌++◌, length, Option, Some, None}
 use Rattle.std.specs.Ordering.{int_eq}
 use Rattle.std.specs.Str.Parse.{signed_digits_value}
 use Rattle.sm_bytes.specs.Ascii.{full_stop, capital_e, small_e}
-use Rattle.sm_tree.specs.Node.{Node, Nodes, Members, null, bool, int, number, text, bytes, tag, opaque, list, object}
+use Rattle.sm_tree.specs.Node.{Node, int, number}
 
 -- the number digits * 10 ^ power
 pub record Decimal : Type 0 where

@@ -1,5 +1,5 @@
 -- Which tree is the schema of a shape of a table: what each definition says, and all of them together.
-use Rattle.std.specs.Prelude.{◌≡◌, ℕ, suc, ◌-◌, ◌^◌, ◌<◌, ℤ, pos, negsuc, int_le, Bool, true, false, ◌&&◌, not, cond, List, [], ◌∷◌, length}
+use Rattle.std.specs.Prelude.{◌≡◌, ℕ, suc, ◌-◌, ◌^◌, ℤ, pos, negsuc, int_le, Bool, true, false, ◌&&◌, not, cond, List, [], ◌∷◌}
 use Rattle.std.specs.Prelude.{Option, Some, None, is_none, unwrap_or, codes}
 use Rattle.sm_time.specs.declared.format.Format.{Format}
 use Rattle.sm_time.specs.declared.format.Format.TheVariants.{DateTime, HttpDate, EpochSeconds}
@@ -187,5 +187,4 @@ pub record IsSchema (t : TableData) (json_names : Bool) (s : ℕ) (tree : Node) 
   pub places : List Place
   pub turns : ℕ
   pub listed : Listed t turns (root_place s ∷ []) 0 places
-  pub few : length places < 2 ^ 64
   pub is : tree ≡ schema_tree (record { table = t; json_names = json_names; places = places })

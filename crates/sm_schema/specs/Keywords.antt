@@ -1,11 +1,11 @@
 -- The keywords of JSON Schema 2020-12 by which schemas of shapes are written, each by its value and an instance: "Core", 8.2.3, 10.2
 -- and 10.3, and "Validation", 6.1 to 6.5. A keyword that speaks of another type than the instance's holds. A keyword whose value isn't of
 -- the form that its section asks for accepts nothing that it speaks of.
-use Rattle.std.specs.Prelude.{ℕ, pos, Bool, true, false, ◌&&◌, ◌||◌, not, List, [], ◌∷◌, length, Option, Some, None, is_some, codes}
+use Rattle.std.specs.Prelude.{ℕ, pos, Bool, true, false, ◌&&◌, ◌||◌, not, List, length, Option, Some, None, is_some, codes}
 use Rattle.std.specs.List.{list_all}
 use Rattle.std.specs.Str.{bytes_eq, chars}
-use Rattle.sm_tree.specs.Node.{Node, Nodes, Members, null, bool, int, number, text, bytes, tag, opaque, list, object, no_nodes, node}
-use Rattle.sm_tree.specs.Node.{no_members, member}
+use Rattle.sm_tree.specs.Node.{Node, Nodes, Members, null, bool, int, number, text, list, object, no_nodes, node}
+use Rattle.sm_tree.specs.Node.{no_members}
 use Rattle.sm_tree.specs.Parts.{tree_named}
 use Rattle.sm_shapes.specs.Fitting.{Test}
 use Rattle.sm_schema.specs.Decimals.{decimal_of, is_whole, number_le}

@@ -1,8 +1,8 @@
 -- What the schema of a shape has to do with the trees that spell the shape's values, as JSON by the names of members or by their JSON
 -- names: every one of them is valid; and every valid tree is one, where the schema can say all that the shape asks for.
-use Rattle.std.specs.Prelude.{◌≡◌, ℕ, ◌<◌, Bool, true, false, List, [], ◌∷◌}
+use Rattle.std.specs.Prelude.{◌≡◌, ℕ, ◌<◌, ◌^◌, Bool, true, List, [], ◌∷◌, length}
 use Rattle.std.specs.List.{Contains}
-use Rattle.sm_tree.specs.Node.{Node, Nodes, Members, null, bool, int, number, text, bytes, tag, opaque, list, object, no_nodes, node}
+use Rattle.sm_tree.specs.Node.{Node, Nodes, Members, number, list, object, no_nodes, node}
 use Rattle.sm_tree.specs.Node.{no_members, member}
 use Rattle.sm_tree.specs.Same.{IsNode}
 use Rattle.sm_shapes.specs.TableData.{TableData, shape_count}
@@ -20,11 +20,15 @@ use Rattle.sm_schema.specs.Valid.{Valid}
 abbrev pub json_codec : TableData → Bool → Test → Codec
 json_codec t json_names test = codec_of t (json_convention json_names) test
 
+-- it has fewer definitions than there are words of 64 bits
+abbrev pub HasFew : (t : TableData) (json_names : Bool) (s : ℕ) (schema : Node) → IsSchema t json_names s schema → Type 0
+HasFew t json_names s schema is = length is.places < 2 ^ 64
+
 -- a tree without a fault for the shape is valid
 abbrev pub SpelledIsValid : Type 0
 SpelledIsValid =
     (t : TableData) (json_names : Bool) (test : Test) (s : ℕ) (schema n : Node) → Shaped t → DefaultsPass t test → s < shape_count t
-    → IsSchema t json_names s schema → IsNode n → faults (json_codec t json_names test) n (root_place s) ≡ [] → Valid test schema n
+    → (is : IsSchema t json_names s schema) → HasFew t json_names s schema is → IsNode n → faults (json_codec t json_names test) n (root_place s) ≡ [] → Valid test schema n
 
 -- by these members, one after the other, a place leads to another
 abbrev pub LeadsBy : TableData → Place → List ℕ → Place → Type 0
@@ -72,10 +76,14 @@ abbrev mutual
 abbrev pub ValidIsSpelled : Type 0
 ValidIsSpelled =
     (t : TableData) (json_names : Bool) (test : Test) (s : ℕ) (schema n : Node) → Shaped t → s < shape_count t
-    → IsSchema t json_names s schema → AllTold t (root_place s) → IsNode n → HasNoNumber n → Valid test schema n
+    → (is : IsSchema t json_names s schema) → HasFew t json_names s schema is → AllTold t (root_place s) → IsNode n → HasNoNumber n → Valid test schema n
     → faults (json_codec t json_names test) n (root_place s) ≡ []
 
 -- a shape has one schema
 abbrev pub OneSchema : Type 0
 OneSchema =
     (t : TableData) (json_names : Bool) (s : ℕ) (a b : Node) → IsSchema t json_names s a → IsSchema t json_names s b → a ≡ b
+
+-- and each shape has one
+abbrev pub SomeSchema : Type 0
+SomeSchema = (t : TableData) (json_names : Bool) (s : ℕ) → Shaped t → s < shape_count t → (tree : Node) × IsSchema t json_names s tree

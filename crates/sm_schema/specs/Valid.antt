@@ -3,7 +3,7 @@
 -- are annotations this is what the standard says. A reference is one into the definitions of the whole schema, by a name without escapes.
 use Rattle.std.specs.Prelude.{◌≡◌, ℕ, zero, suc, ◌+◌, ◌==◌, Bool, true, false, ◌&&◌, cond, List, [], ◌∷◌, Option, Some, None, codes}
 use Rattle.std.specs.Str.{bytes_eq}
-use Rattle.sm_tree.specs.Node.{Node, Nodes, Members, null, bool, int, number, text, bytes, tag, opaque, list, object, no_nodes, node}
+use Rattle.sm_tree.specs.Node.{Node, Nodes, Members, bool, text, list, object, no_nodes, node}
 use Rattle.sm_tree.specs.Node.{no_members, member}
 use Rattle.sm_tree.specs.Parts.{tree_named}
 use Rattle.sm_tree.specs.Size.{node_size}

@@ -18,9 +18,10 @@ ghost use Rattle.sm_schema.specs.steps.Numbered.{AllMembers, AreNumbered, listin
 use crate::definitions::{nullable, nullable_if, reference};
 use crate::listing::DefinedPlaces;
 use crate::nodes::{list_of, object_of, one_pair, put, put_bound, put_entry, typed};
+use crate::trees::{JsonEntries, JsonPairs, JsonTree, bool_tree, no_entries, no_pairs, text_tree};
 use sm_codec::ValuePlace;
 use sm_shapes::tables::Table;
-use sm_tree::{NoMemory, Text, Tree};
+use sm_tree::NoMemory;
 use std::alloc::Global;
 
 fn is_sparse(table: &Table, place: ValuePlace) -> bool
@@ -40,12 +41,12 @@ fn is_unique(table: &Table, place: ValuePlace) -> bool
 }
 
 // Puts the keyword of entries that differ behind the pairs that are there, where they do.
-fn put_unique(alloc: Global, pairs: &mut Vec<(Text, Tree)>, unique: bool) -> Result<(), NoMemory>
-    ensures { OnOk result (joined (members_view pairs.new.items) no_members
-        ≡ joined (members_view pairs.old.items) (the.with_unique unique)) }
+fn put_unique(alloc: Global, pairs: &mut JsonPairs, unique: bool) -> Result<(), NoMemory>
+    ensures { OnOk result (joined (members_view pairs.new.pairs.items) no_members
+        ≡ joined (members_view pairs.old.pairs.items) (the.with_unique unique)) }
 {
     if unique {
-        put(alloc, pairs, "uniqueItems", Tree::Bool(true))
+        put(alloc, pairs, "uniqueItems", bool_tree(true))
     } else {
         Ok(())
     }
@@ -57,12 +58,12 @@ pub(crate) fn list_definition(
     table: &Table,
     all: &DefinedPlaces,
     place: ValuePlace,
-) -> Result<Tree, NoMemory>
+) -> Result<JsonTree, NoMemory>
     requires shaped { Shaped (table_data table.now) }
     requires inside { InTable (table_data table.now) (place_of place) }
     requires kind { kind_of (table_data table.now) (place_of place) ≡ kinds.List }
     requires numbered { AreNumbered (table_data table.now) all.now }
-    ensures { IfOk result (λ tree. (json_names : Bool) → node_of tree
+    ensures { IfOk result (λ tree. (json_names : Bool) → node_of tree.tree
         ≡ the.list_definition (listing_of (table_data table.now) json_names all.now) (place_of place)) }
 {
     let held = place.constraints(table);
@@ -82,12 +83,12 @@ pub(crate) fn map_definition(
     table: &Table,
     all: &DefinedPlaces,
     place: ValuePlace,
-) -> Result<Tree, NoMemory>
+) -> Result<JsonTree, NoMemory>
     requires shaped { Shaped (table_data table.now) }
     requires inside { InTable (table_data table.now) (place_of place) }
     requires kind { kind_of (table_data table.now) (place_of place) ≡ kinds.Map }
     requires numbered { AreNumbered (table_data table.now) all.now }
-    ensures { IfOk result (λ tree. (json_names : Bool) → node_of tree
+    ensures { IfOk result (λ tree. (json_names : Bool) → node_of tree.tree
         ≡ the.map_definition (listing_of (table_data table.now) json_names all.now) (place_of place)) }
 {
     let held = place.constraints(table);
@@ -129,11 +130,11 @@ fn member_schema(
     all: &DefinedPlaces,
     member: u32,
     choice: bool,
-) -> Result<Tree, NoMemory>
+) -> Result<JsonTree, NoMemory>
     requires shaped { Shaped (table_data table.now) }
     requires member { member < member_count (table_data table.now) }
     requires numbered { AreNumbered (table_data table.now) all.now }
-    ensures { IfOk result (λ tree. (json_names : Bool) → node_of tree
+    ensures { IfOk result (λ tree. (json_names : Bool) → node_of tree.tree
         ≡ schema_for (listing_of (table_data table.now) json_names all.now) choice member) }
 {
     let tree = reference(alloc, table, all, ValuePlace::Member(member))?;
@@ -152,15 +153,15 @@ fn schemas_under(
     json_names: bool,
     members: &[u32],
     choice: bool,
-) -> Result<Vec<(Text, Tree)>, NoMemory>
+) -> Result<JsonPairs, NoMemory>
     requires shaped { Shaped (table_data table.now) }
     requires members { AllMembers (table_data table.now) members.now }
     requires numbered { AreNumbered (table_data table.now) all.now }
-    ensures { IfOk result (λ pairs. (s : ℕ) → joined (members_view pairs.items) no_members
+    ensures { IfOk result (λ pairs. (s : ℕ) → joined (members_view pairs.pairs.items) no_members
         ≡ the.schemas_under (listing_of (table_data table.now) json_names all.now) s
         (schema_for (listing_of (table_data table.now) json_names all.now) choice) members.now) }
 {
-    let mut pairs = Vec::new(alloc);
+    let mut pairs = no_pairs(alloc);
     for member in members {
         let tree = member_schema(alloc, table, all, *member, choice)?;
         put(
@@ -176,16 +177,16 @@ fn schemas_under(
 // Puts a name behind those that are there, where the member must stand.
 fn put_name(
     alloc: Global,
-    entries: &mut Vec<Tree>,
+    entries: &mut JsonEntries,
     must_stand: bool,
     name: &str,
 ) -> Result<(), NoMemory>
-    ensures { OnOk result ((more : Nodes) → entries_joined (nodes_view entries.new.items) more
-        ≡ entries_joined (nodes_view entries.old.items) (cond must_stand (node (nodes.text name.now) more) more)) }
+    ensures { OnOk result ((more : Nodes) → entries_joined (nodes_view entries.new.entries.items) more
+        ≡ entries_joined (nodes_view entries.old.entries.items) (cond must_stand (node (nodes.text name.now) more) more)) }
 {
     if must_stand {
-        let words = Text::copy(alloc, name)?;
-        put_entry(entries, Tree::Text(words))
+        let tree = text_tree(alloc, name)?;
+        put_entry(entries, tree)
     } else {
         Ok(())
     }
@@ -197,12 +198,12 @@ fn required_names(
     table: &Table,
     json_names: bool,
     members: &[u32],
-) -> Result<Vec<Tree>, NoMemory>
+) -> Result<JsonEntries, NoMemory>
     requires members { AllMembers (table_data table.now) members.now }
-    ensures { IfOk result (λ entries. (s : ℕ) (ps : List Place) → entries_joined (nodes_view entries.items) no_nodes
+    ensures { IfOk result (λ entries. (s : ℕ) (ps : List Place) → entries_joined (nodes_view entries.entries.items) no_nodes
         ≡ the.required_names (listing (table_data table.now) json_names ps) s members.now) }
 {
-    let mut entries = Vec::new(alloc);
+    let mut entries = no_entries(alloc);
     for member in members {
         let name = wire_name(table, json_names, *member);
         put_name(alloc, &mut entries, must_stand(table, *member), name)?;
@@ -211,15 +212,11 @@ fn required_names(
 }
 
 // Puts the keyword of names that must stand behind the pairs that are there, where there are any.
-fn put_required(
-    alloc: Global,
-    pairs: &mut Vec<(Text, Tree)>,
-    names: Vec<Tree>,
-) -> Result<(), NoMemory>
-    ensures { OnOk result (joined (members_view pairs.new.items) no_members
-        ≡ joined (members_view pairs.old.items) (the.with_required (entries_joined (nodes_view names.items) no_nodes))) }
+fn put_required(alloc: Global, pairs: &mut JsonPairs, names: JsonEntries) -> Result<(), NoMemory>
+    ensures { OnOk result (joined (members_view pairs.new.pairs.items) no_members
+        ≡ joined (members_view pairs.old.pairs.items) (the.with_required (entries_joined (nodes_view names.entries.items) no_nodes))) }
 {
-    if names.is_empty() {
+    if names.entries.is_empty() {
         Ok(())
     } else {
         put(alloc, pairs, "required", list_of(names))
@@ -233,11 +230,11 @@ pub(crate) fn structure_definition(
     all: &DefinedPlaces,
     json_names: bool,
     place: ValuePlace,
-) -> Result<Tree, NoMemory>
+) -> Result<JsonTree, NoMemory>
     requires shaped { Shaped (table_data table.now) }
     requires inside { InTable (table_data table.now) (place_of place) }
     requires numbered { AreNumbered (table_data table.now) all.now }
-    ensures { IfOk result (λ tree. node_of tree
+    ensures { IfOk result (λ tree. node_of tree.tree
         ≡ the.structure_definition (listing_of (table_data table.now) json_names all.now) (place_of place)) }
 {
     let members = table.members(place.shape(table));
@@ -256,20 +253,20 @@ fn choice(
     all: &DefinedPlaces,
     json_names: bool,
     member: u32,
-) -> Result<Tree, NoMemory>
+) -> Result<JsonTree, NoMemory>
     requires shaped { Shaped (table_data table.now) }
     requires member { member < member_count (table_data table.now) }
     requires numbered { AreNumbered (table_data table.now) all.now }
-    ensures { IfOk result (λ tree. (s : ℕ) → node_of tree
+    ensures { IfOk result (λ tree. (s : ℕ) → node_of tree.tree
         ≡ the.choice (listing_of (table_data table.now) json_names all.now) s member) }
 {
     let name = wire_name(table, json_names, member);
     let tree = reference(alloc, table, all, ValuePlace::Member(member))?;
     let properties = one_pair(alloc, name, tree)?;
-    let mut names = Vec::new(alloc);
-    let words = Text::copy(alloc, name)?;
-    put_entry(&mut names, Tree::Text(words))?;
-    let mut pairs = Vec::new(alloc);
+    let mut names = no_entries(alloc);
+    let words = text_tree(alloc, name)?;
+    put_entry(&mut names, words)?;
+    let mut pairs = no_pairs(alloc);
     put(alloc, &mut pairs, "properties", properties)?;
     put(alloc, &mut pairs, "required", list_of(names))?;
     Ok(object_of(pairs))
@@ -281,14 +278,14 @@ fn choices(
     all: &DefinedPlaces,
     json_names: bool,
     members: &[u32],
-) -> Result<Vec<Tree>, NoMemory>
+) -> Result<JsonEntries, NoMemory>
     requires shaped { Shaped (table_data table.now) }
     requires members { AllMembers (table_data table.now) members.now }
     requires numbered { AreNumbered (table_data table.now) all.now }
-    ensures { IfOk result (λ entries. (s : ℕ) → entries_joined (nodes_view entries.items) no_nodes
+    ensures { IfOk result (λ entries. (s : ℕ) → entries_joined (nodes_view entries.entries.items) no_nodes
         ≡ the.choices (listing_of (table_data table.now) json_names all.now) s members.now) }
 {
-    let mut entries = Vec::new(alloc);
+    let mut entries = no_entries(alloc);
     for member in members {
         let tree = choice(alloc, table, all, json_names, *member)?;
         put_entry(&mut entries, tree)?;
@@ -303,11 +300,11 @@ pub(crate) fn union_definition(
     all: &DefinedPlaces,
     json_names: bool,
     place: ValuePlace,
-) -> Result<Tree, NoMemory>
+) -> Result<JsonTree, NoMemory>
     requires shaped { Shaped (table_data table.now) }
     requires inside { InTable (table_data table.now) (place_of place) }
     requires numbered { AreNumbered (table_data table.now) all.now }
-    ensures { IfOk result (λ tree. node_of tree
+    ensures { IfOk result (λ tree. node_of tree.tree
         ≡ the.union_definition (listing_of (table_data table.now) json_names all.now) (place_of place)) }
 {
     let members = table.members(place.shape(table));

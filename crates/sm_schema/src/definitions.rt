@@ -21,17 +21,18 @@ use crate::nodes::{
     list_of, number_nodes, object_of, one_pair, put, put_bound, put_entry, put_text, text_nodes,
     typed,
 };
+use crate::trees::{JsonPairs, JsonTree, no_entries, number_tree, text_tree};
 use sm_codec::ValuePlace;
 use sm_shapes::constraints::Constraints;
 use sm_shapes::kinds::ShapeKind;
 use sm_shapes::tables::Table;
 use sm_time::Format;
-use sm_tree::{NoMemory, Text, Tree};
+use sm_tree::NoMemory;
 use std::alloc::Global;
 
 // A schema of a type alone.
-pub(crate) fn type_alone(alloc: Global, name: &str) -> Result<Tree, NoMemory>
-    ensures { IfOk result (λ tree. node_of tree ≡ the.typed name.now no_members) }
+pub(crate) fn type_alone(alloc: Global, name: &str) -> Result<JsonTree, NoMemory>
+    ensures { IfOk result (λ tree. node_of tree.tree ≡ the.typed name.now no_members) }
 {
     let pairs = typed(alloc, name)?;
     Ok(object_of(pairs))
@@ -40,13 +41,13 @@ pub(crate) fn type_alone(alloc: Global, name: &str) -> Result<Tree, NoMemory>
 // Puts the keywords of a text behind the pairs that are there.
 fn put_text_keywords(
     alloc: Global,
-    pairs: &mut Vec<(Text, Tree)>,
+    pairs: &mut JsonPairs,
     table: &Table,
     held: &Constraints,
 ) -> Result<(), NoMemory>
     requires { NamesPattern (table_data table.now) held.now.pattern }
-    ensures { OnOk result (joined (members_view pairs.new.items) no_members
-        ≡ joined (members_view pairs.old.items) (the.text_keywords (table_data table.now) (constraint_data held.now))) }
+    ensures { OnOk result (joined (members_view pairs.new.pairs.items) no_members
+        ≡ joined (members_view pairs.old.pairs.items) (the.text_keywords (table_data table.now) (constraint_data held.now))) }
 {
     put_bound(alloc, pairs, "minLength", held.min)?;
     put_bound(alloc, pairs, "maxLength", held.max)?;
@@ -61,9 +62,9 @@ pub(crate) fn text_definition(
     alloc: Global,
     table: &Table,
     held: &Constraints,
-) -> Result<Tree, NoMemory>
+) -> Result<JsonTree, NoMemory>
     requires { NamesPattern (table_data table.now) held.now.pattern }
-    ensures { IfOk result (λ tree. node_of tree
+    ensures { IfOk result (λ tree. node_of tree.tree
         ≡ the.typed (codes "string") (the.text_keywords (table_data table.now) (constraint_data held.now))) }
 {
     let mut pairs = typed(alloc, "string")?;
@@ -76,9 +77,9 @@ pub(crate) fn enum_definition(
     alloc: Global,
     table: &Table,
     held: &Constraints,
-) -> Result<Tree, NoMemory>
+) -> Result<JsonTree, NoMemory>
     requires { NamesPattern (table_data table.now) held.now.pattern }
-    ensures { IfOk result (λ tree. node_of tree ≡ the.typed (codes "string") (member (codes "enum")
+    ensures { IfOk result (λ tree. node_of tree.tree ≡ the.typed (codes "string") (member (codes "enum")
         (list (the.text_nodes held.now.texts)) (the.text_keywords (table_data table.now) (constraint_data held.now)))) }
 {
     let mut pairs = typed(alloc, "string")?;
@@ -109,25 +110,25 @@ fn narrow_max(greatest: i64, bound: Option<i64>) -> i64
 // Puts the bounds of whole numbers behind the pairs that are there.
 fn put_range(
     alloc: Global,
-    pairs: &mut Vec<(Text, Tree)>,
+    pairs: &mut JsonPairs,
     least: i64,
     greatest: i64,
     held: &Constraints,
 ) -> Result<(), NoMemory>
-    ensures { OnOk result (joined (members_view pairs.new.items) no_members
-        ≡ joined (members_view pairs.old.items) (the.range_between least greatest (constraint_data held.now))) }
+    ensures { OnOk result (joined (members_view pairs.new.pairs.items) no_members
+        ≡ joined (members_view pairs.old.pairs.items) (the.range_between least greatest (constraint_data held.now))) }
 {
     put(
         alloc,
         pairs,
         "minimum",
-        Tree::Int(narrow_min(least, held.min)),
+        number_tree(narrow_min(least, held.min)),
     )?;
     put(
         alloc,
         pairs,
         "maximum",
-        Tree::Int(narrow_max(greatest, held.max)),
+        number_tree(narrow_max(greatest, held.max)),
     )
 }
 
@@ -137,8 +138,8 @@ pub(crate) fn number_definition(
     least: i64,
     greatest: i64,
     held: &Constraints,
-) -> Result<Tree, NoMemory>
-    ensures { IfOk result (λ tree. node_of tree
+) -> Result<JsonTree, NoMemory>
+    ensures { IfOk result (λ tree. node_of tree.tree
         ≡ the.typed (codes "integer") (the.range_between least greatest (constraint_data held.now))) }
 {
     let mut pairs = typed(alloc, "integer")?;
@@ -152,8 +153,8 @@ pub(crate) fn number_enum_definition(
     least: i64,
     greatest: i64,
     held: &Constraints,
-) -> Result<Tree, NoMemory>
-    ensures { IfOk result (λ tree. node_of tree ≡ the.typed (codes "integer") (member (codes "enum")
+) -> Result<JsonTree, NoMemory>
+    ensures { IfOk result (λ tree. node_of tree.tree ≡ the.typed (codes "integer") (member (codes "enum")
         (list (the.number_nodes held.now.numbers)) (the.range_between least greatest (constraint_data held.now)))) }
 {
     let mut pairs = typed(alloc, "integer")?;
@@ -201,30 +202,31 @@ pub(crate) fn reference(
     table: &Table,
     all: &DefinedPlaces,
     place: ValuePlace,
-) -> Result<Tree, NoMemory>
+) -> Result<JsonTree, NoMemory>
     requires shaped { Shaped (table_data table.now) }
     requires inside { InTable (table_data table.now) (place_of place) }
     requires numbered { AreNumbered (table_data table.now) all.now }
-    ensures { IfOk result (λ tree. (json_names : Bool) → node_of tree
+    ensures { IfOk result (λ tree. (json_names : Bool) → node_of tree.tree
         ≡ defs.reference (listing_of (table_data table.now) json_names all.now) (place_of place)) }
 {
     let words = reference_words(alloc, table, all, place)?;
-    one_pair(alloc, "$ref", Tree::Text(Text::new(words)))
+    let tree = text_tree(alloc, words.as_str())?;
+    one_pair(alloc, "$ref", tree)
 }
 
 // A reference, or null.
-pub(crate) fn nullable(alloc: Global, tree: Tree) -> Result<Tree, NoMemory>
-    ensures { IfOk result (λ made. node_of made ≡ the.nullable (node_of tree)) }
+pub(crate) fn nullable(alloc: Global, tree: JsonTree) -> Result<JsonTree, NoMemory>
+    ensures { IfOk result (λ made. node_of made.tree ≡ the.nullable (node_of tree.tree)) }
 {
     let null = type_alone(alloc, "null")?;
-    let mut entries = Vec::new(alloc);
+    let mut entries = no_entries(alloc);
     put_entry(&mut entries, tree)?;
     put_entry(&mut entries, null)?;
     one_pair(alloc, "oneOf", list_of(entries))
 }
 
-pub(crate) fn nullable_if(alloc: Global, nulls: bool, tree: Tree) -> Result<Tree, NoMemory>
-    ensures { IfOk result (λ made. node_of made ≡ the.nullable_if nulls (node_of tree)) }
+pub(crate) fn nullable_if(alloc: Global, nulls: bool, tree: JsonTree) -> Result<JsonTree, NoMemory>
+    ensures { IfOk result (λ made. node_of made.tree ≡ the.nullable_if nulls (node_of tree.tree)) }
 {
     if nulls {
         nullable(alloc, tree)

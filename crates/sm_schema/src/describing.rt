@@ -1,5 +1,6 @@
 // The schema of a shape: the definitions of all places to which it leads, and a reference to the first.
 ghost use Rattle.std.specs.Prelude.{◌≡◌, ◌<◌, [], IfOk, OnOk};
+ghost use Rattle.sm_tree.specs.Json.{IsJson};
 ghost use Rattle.sm_tree.specs.Node.{Node, no_members};
 ghost use Rattle.sm_tree.specs.Same.{IsNode};
 ghost use Rattle.sm_tree.specs.View.{members_view, node_of};
@@ -12,7 +13,7 @@ ghost use Rattle.sm_codec.specs.PlaceView.{place_of};
 ghost use Rattle.sm_codec.specs.Readings.{faults};
 ghost use Rattle.sm_schema.specs.Definitions.{reference_text};
 ghost use Rattle.sm_schema.specs.Described as the;
-ghost use Rattle.sm_schema.specs.SchemaLaws.{AllTold, HasNoNumber, json_codec};
+ghost use Rattle.sm_schema.specs.SchemaLaws.{AllTold, HasFew, HasNoNumber, json_codec};
 ghost use Rattle.sm_schema.specs.Valid.{Valid};
 ghost use Rattle.sm_schema.specs.steps.Joined.{joined};
 ghost use Rattle.sm_schema.specs.steps.Numbered.{AreNumbered, listing_of, places_in};
@@ -25,12 +26,13 @@ use crate::definitions::{
 use crate::laws::{spelled_is_valid, valid_is_spelled};
 use crate::listing::{DefinedPlaces, defined_places};
 use crate::nodes::{object_of, put, put_text};
+use crate::trees::{JsonPairs, JsonTree, bool_tree, no_pairs};
 use sm_codec::ValuePlace;
 use sm_shapes::Patterns;
 use sm_shapes::kinds::ShapeKind;
 use sm_shapes::tables::Table;
 use sm_time::Format;
-use sm_tree::{NoMemory, Text, Tree};
+use sm_tree::{NoMemory, Tree};
 use std::alloc::Global;
 
 // The definition of a place.
@@ -40,11 +42,11 @@ fn definition(
     all: &DefinedPlaces,
     json_names: bool,
     place: ValuePlace,
-) -> Result<Tree, NoMemory>
+) -> Result<JsonTree, NoMemory>
     requires shaped { Shaped (table_data table.now) }
     requires inside { InTable (table_data table.now) (place_of place) }
     requires numbered { AreNumbered (table_data table.now) all.now }
-    ensures { IfOk result (λ tree. node_of tree ≡ the.definition (listing_of (table_data table.now) json_names all.now) (place_of place)) }
+    ensures { IfOk result (λ tree. node_of tree.tree ≡ the.definition (listing_of (table_data table.now) json_names all.now) (place_of place)) }
 {
     let held = place.constraints(table);
     match place.kind(table) {
@@ -65,7 +67,7 @@ fn definition(
         ShapeKind::Map => map_definition(alloc, table, all, place),
         ShapeKind::Structure => structure_definition(alloc, table, all, json_names, place),
         ShapeKind::Union => union_definition(alloc, table, all, json_names, place),
-        ShapeKind::LeftOut => Ok(Tree::Bool(false)),
+        ShapeKind::LeftOut => Ok(bool_tree(false)),
     }
 }
 
@@ -75,13 +77,13 @@ fn definitions(
     table: &Table,
     all: &DefinedPlaces,
     json_names: bool,
-) -> Result<Vec<(Text, Tree)>, NoMemory>
+) -> Result<JsonPairs, NoMemory>
     requires shaped { Shaped (table_data table.now) }
     requires numbered { AreNumbered (table_data table.now) all.now }
-    ensures { IfOk result (λ pairs. joined (members_view pairs.items) no_members
+    ensures { IfOk result (λ pairs. joined (members_view pairs.pairs.items) no_members
         ≡ the.definitions (listing_of (table_data table.now) json_names all.now) 0 (places_in all.now)) }
 {
-    let mut pairs = Vec::new(alloc);
+    let mut pairs = no_pairs(alloc);
     for number in 0..all.places.len() {
         let tree = definition(alloc, table, all, json_names, all.places[number])?;
         let name = format!(in alloc; "d{number}")?;
@@ -96,7 +98,8 @@ fn first_reference() -> &'static str
     "#/$defs/d0"
 }
 
-/// The schema of the shape with this number (JSON Schema 2020-12), where members stand under their names or under their JSON names. The
+/// The schema of the shape with this number (JSON Schema 2020-12), where members stand under their names or under their JSON names. It is a
+/// tree that JSON can spell. The
 /// store isn't asked: its type's test is the one by which patterns find texts. `NoMemory` where the allocator refuses the memory for it.
 /// A tree that has no fault for the shape is accepted by the schema; and one that the schema accepts has no fault, where the schema can say
 /// all that the shape asks for.
@@ -110,6 +113,7 @@ pub fn schema<P: Patterns>(
     requires shaped { Shaped (table_data table.now) }
     requires shape { shape < shape_count (table_data table.now) }
     ensures schema { IfOk result (λ tree. the.IsSchema (table_data table.now) json_names shape (node_of tree)) }
+    ensures json { IfOk result (λ tree. IsJson (node_of tree)) }
     ensures spelled { IfOk result (λ tree. (n : Node) → DefaultsPass (table_data table.now) P.test → IsNode n
         → faults (json_codec (table_data table.now) json_names P.test) n (root_place shape) ≡ [] → Valid P.test (node_of tree) n) }
     ensures valid { IfOk result (λ tree. (n : Node) → AllTold (table_data table.now) (root_place shape) → IsNode n → HasNoNumber n
@@ -117,18 +121,24 @@ pub fn schema<P: Patterns>(
 {
     spelled_is_valid();
     valid_is_spelled();
-    let tree = schema_of(alloc, table, shape, json_names)?;
-    Ok(tree)
+    let made = schema_of(alloc, table, shape, json_names)?;
+    Ok(made.tree)
 }
 
-fn schema_of(alloc: Global, table: &Table, shape: u32, json_names: bool) -> Result<Tree, NoMemory>
+fn schema_of(
+    alloc: Global,
+    table: &Table,
+    shape: u32,
+    json_names: bool,
+) -> Result<JsonTree, NoMemory>
     requires shaped { Shaped (table_data table.now) }
     requires shape { shape < shape_count (table_data table.now) }
-    ensures { IfOk result (λ tree. the.IsSchema (table_data table.now) json_names shape (node_of tree)) }
+    ensures { IfOk result (λ tree. (is : the.IsSchema (table_data table.now) json_names shape (node_of tree.tree))
+        × HasFew (table_data table.now) json_names shape (node_of tree.tree) is) }
 {
     let all = defined_places(alloc, table, shape)?;
     let definitions = definitions(alloc, table, &all, json_names)?;
-    let mut pairs = Vec::new(alloc);
+    let mut pairs = no_pairs(alloc);
     put_text(
         alloc,
         &mut pairs,

@@ -8,5 +8,6 @@ mod describing;
 pub mod laws;
 mod listing;
 mod nodes;
+mod trees;
 
 pub use describing::schema;

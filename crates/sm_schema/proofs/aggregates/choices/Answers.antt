@@ -14,7 +14,7 @@ loop-member-preserved c =
     let d = listing_of t c.args.json_names c.args.all.now in
     let all = c.args.members.now in
     let i = c.loop-member.member-index in
-    let view = nodes_view c.loop-member.entries.items in
+    let view = nodes_view c.loop-member.entries.entries.items in
     let step : drop i all ≡ get_or all i 0 ∷ drop (i + 1) all = drop_more all i 0 c.loop-member-test.true in
     record {
       members = (subst (AllMembers t) step c.loop-member.invariant.members).1;

@@ -1,7 +1,6 @@
 use Rattle.std.proofs.Common.{ℤ, Bool, Option, codes, ap, ◌∙◌}
-use Rattle.sm_tree.specs.Node.{Node, object, no_members, member}
+use Rattle.sm_tree.specs.Node.{Node, object, member}
 use Rattle.sm_tree.specs.View.{node_of}
-use Rattle.sm_shapes.specs.ConstraintView.{constraint_data}
 use Rattle.sm_shapes.specs.Places.{constraints_of, entry_place, sparse_of}
 use Rattle.sm_shapes.specs.TableView.{table_data}
 use Rattle.sm_codec.specs.PlaceView.{place_of}
@@ -27,7 +26,7 @@ returns c json_names =
     ∙ ap object (c.in_ok-put_unique.ensures ∙ c.in_ok-put_bound-2.ensures (with_unique c.is_unique.result)
     ∙ c.in_ok-put_bound.ensures (with_bound (codes "maxItems") held.max (with_unique c.is_unique.result))
     ∙ c.in_ok-put.ensures (with_bound (codes "minItems") held.min (with_bound (codes "maxItems") held.max (with_unique c.is_unique.result))))
-    ∙ c.in_ok-pairs.ensures (member (codes "items") (node_of c.in_ok-items.items)
+    ∙ c.in_ok-pairs.ensures (member (codes "items") (node_of c.in_ok-items.items.tree)
     (with_bound (codes "minItems") held.min (with_bound (codes "maxItems") held.max (with_unique c.is_unique.result))))
     ∙ ap (λ n. built n held.min held.max c.is_unique.result) items
     ∙ ap (λ k. built (nullable_if (sparse_of t p) (reference d (entry_place t p))) k.min k.max c.is_unique.result) c.constraints-held.ensures

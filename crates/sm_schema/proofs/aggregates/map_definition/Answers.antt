@@ -1,7 +1,7 @@
 use Rattle.std.proofs.Common.{ℤ, Option, codes, ap, ◌∙◌}
 use Rattle.sm_tree.specs.Node.{Node, object, no_members, member}
 use Rattle.sm_tree.specs.View.{node_of}
-use Rattle.sm_shapes.specs.Places.{constraints_of, key_place, value_place, sparse_of}
+use Rattle.sm_shapes.specs.Places.{key_place, value_place, sparse_of}
 use Rattle.sm_shapes.specs.TableView.{table_data}
 use Rattle.sm_codec.specs.PlaceView.{place_of}
 use Rattle.sm_schema.specs.Definitions.{reference}
@@ -28,12 +28,12 @@ returns c json_names =
     ∙ ap object (c.in_ok-put_bound-2.ensures no_members
     ∙ c.in_ok-put_bound.ensures (with_bound (codes "maxProperties") held.max no_members)
     ∙ c.in_ok-put-2.ensures (with_bound (codes "minProperties") held.min (with_bound (codes "maxProperties") held.max no_members))
-    ∙ c.in_ok-put.ensures (member (codes "additionalProperties") (node_of c.in_ok-values.values)
+    ∙ c.in_ok-put.ensures (member (codes "additionalProperties") (node_of c.in_ok-values.values.tree)
     (with_bound (codes "minProperties") held.min (with_bound (codes "maxProperties") held.max no_members))))
-    ∙ c.in_ok-pairs.ensures (member (codes "propertyNames") (node_of c.in_ok-key.key)
-    (member (codes "additionalProperties") (node_of c.in_ok-values.values)
+    ∙ c.in_ok-pairs.ensures (member (codes "propertyNames") (node_of c.in_ok-key.key.tree)
+    (member (codes "additionalProperties") (node_of c.in_ok-values.values.tree)
     (with_bound (codes "minProperties") held.min (with_bound (codes "maxProperties") held.max no_members))))
-    ∙ ap (λ n. built n (node_of c.in_ok-values.values) held.min held.max) names
+    ∙ ap (λ n. built n (node_of c.in_ok-values.values.tree) held.min held.max) names
     ∙ ap (λ n. built (reference d (key_place t p)) n held.min held.max) values
     ∙ ap (λ k. built (reference d (key_place t p)) (nullable_if (sparse_of t p) (reference d (value_place t p))) k.min k.max)
     c.constraints-held.ensures

@@ -8,7 +8,7 @@ use Rattle.sm_schema.proofs.aggregates.put_required.Goals as goal
 pub returns-else-is_empty : goal.returns-else-is_empty
 returns-else-is_empty c =
     on_ok c.put.result (λ says. says no_members
-    ∙ ap (joined (members_view c.args.pairs.now.items))
-    (required_put c.args.names.items (node_of c.list_of.result)
-    (not_empty c.args.names.len _ c.is_empty.result c.is_empty.ensures c.if-is_empty.false c.args.names.ok.0) c.list_of.ensures))
+    ∙ ap (joined (members_view c.args.pairs.now.pairs.items))
+    (required_put c.args.names.entries.items (node_of c.list_of.result.tree)
+    (not_empty c.args.names.entries.len _ c.is_empty.result c.is_empty.ensures c.if-is_empty.false c.args.names.entries.ok.0) c.list_of.ensures))
     c.put.ensures

@@ -10,7 +10,7 @@ use Rattle.sm_schema.proofs.aggregates.required_names.Given as goal
 abbrev pub invariant-loop-member : goal.invariant-loop-member
 invariant-loop-member l = record {
   members : AllMembers (table_data l.table) (drop l.member-index l.members);
-  built : (s : ℕ) (ps : List Place) → entries_joined (nodes_view l.entries.items)
+  built : (s : ℕ) (ps : List Place) → entries_joined (nodes_view l.entries.entries.items)
       (required_names (listing (table_data l.table) l.json_names ps) s (drop l.member-index l.members))
       ≡ required_names (listing (table_data l.table) l.json_names ps) s l.members;
 }

@@ -16,12 +16,12 @@ loop-member-preserved c =
     let all = c.args.members.now in
     let i = c.loop-member.member-index in
     let k = get_or all i 0 in
-    let view = members_view c.loop-member.pairs.items in
+    let view = members_view c.loop-member.pairs.pairs.items in
     let step : drop i all ≡ get_or all i 0 ∷ drop (i + 1) all = drop_more all i 0 c.loop-member-test.true in
     record {
       members = (subst (AllMembers t) step c.loop-member.invariant.members).1;
       built = λ s. c.in_ok-put.ensures (schemas_under d s f (drop (i + 1) all))
-          ∙ ap (λ name. joined view (member name (node_of c.in_ok-tree.tree) (schemas_under d s f (drop (i + 1) all)))) (c.wire_name.ensures s)
+          ∙ ap (λ name. joined view (member name (node_of c.in_ok-tree.tree.tree) (schemas_under d s f (drop (i + 1) all)))) (c.wire_name.ensures s)
           ∙ ap (λ n. joined view (member (name_of d s k) n (schemas_under d s f (drop (i + 1) all)))) (c.in_ok-tree.ensures c.args.json_names)
           ∙ sym (ap (λ ks. joined view (schemas_under d s f ks)) step) ∙ c.loop-member.invariant.built s;
     }
@@ -33,5 +33,5 @@ returns c s =
     let f = schema_for d c.args.choice in
     let all = c.args.members.now in
     let i = c.loop-member.member-index in
-    sym (ap (λ ks. joined (members_view c.loop-member.pairs.items) (schemas_under d s f ks)) (drop_all i all c.loop-member-test.false))
+    sym (ap (λ ks. joined (members_view c.loop-member.pairs.pairs.items) (schemas_under d s f ks)) (drop_all i all c.loop-member-test.false))
     ∙ c.loop-member.invariant.built s

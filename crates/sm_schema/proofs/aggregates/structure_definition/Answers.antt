@@ -1,5 +1,5 @@
 use Rattle.std.proofs.Common.{false, codes, ap, ◌∙◌}
-use Rattle.sm_tree.specs.Node.{Node, Nodes, object, no_nodes, no_members, member}
+use Rattle.sm_tree.specs.Node.{Node, Nodes, object, no_nodes, member}
 use Rattle.sm_tree.specs.View.{nodes_view, node_of}
 use Rattle.sm_shapes.specs.Places.{shape_of, members_of_place}
 use Rattle.sm_shapes.specs.TableData.{members_at}
@@ -32,11 +32,11 @@ returns c =
     let d = listing_of t c.args.json_names c.args.all.now in
     let s = shape_of t p in
     let now = c.members-members.ensures ∙ ap (members_at t) c.shape.ensures in
-    let names = entries_joined (nodes_view c.in_ok-names.names.items) no_nodes in
+    let names = entries_joined (nodes_view c.in_ok-names.names.entries.items) no_nodes in
     let schemas = c.object_of.ensures ∙ ap object (c.in_ok-schemas.ensures s ∙ ap (schemas_under d s (schema_for d false)) now) in
     let required = c.in_ok-names.ensures s (places_in c.args.all.now) ∙ ap (required_names d s) now in
     c.object_of-2.ensures
     ∙ ap object (c.in_ok-put_required.ensures ∙ c.in_ok-put.ensures (with_required names))
-    ∙ c.in_ok-pairs.ensures (member (codes "properties") (node_of c.object_of.result) (with_required names))
+    ∙ c.in_ok-pairs.ensures (member (codes "properties") (node_of c.object_of.result.tree) (with_required names))
     ∙ ap (λ n. built n names) schemas
     ∙ ap (built (object (schemas_under d s (member_schema d) (members_of_place t p)))) required

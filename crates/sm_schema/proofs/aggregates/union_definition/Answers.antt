@@ -33,8 +33,8 @@ returns c =
     let schemas = c.object_of.ensures ∙ ap object (c.in_ok-schemas.ensures s ∙ ap (schemas_under d s (schema_for d true)) now) in
     let one_of = c.list_of.ensures ∙ ap list (c.in_ok-one_of.ensures s ∙ ap (choices d s) now) in
     c.object_of-2.ensures
-    ∙ ap object (c.in_ok-put-2.ensures no_members ∙ c.in_ok-put.ensures (member (codes "oneOf") (node_of c.list_of.result) no_members))
-    ∙ c.in_ok-pairs.ensures (member (codes "properties") (node_of c.object_of.result)
-    (member (codes "oneOf") (node_of c.list_of.result) no_members))
-    ∙ ap (λ n. built n (node_of c.list_of.result)) schemas
+    ∙ ap object (c.in_ok-put-2.ensures no_members ∙ c.in_ok-put.ensures (member (codes "oneOf") (node_of c.list_of.result.tree) no_members))
+    ∙ c.in_ok-pairs.ensures (member (codes "properties") (node_of c.object_of.result.tree)
+    (member (codes "oneOf") (node_of c.list_of.result.tree) no_members))
+    ∙ ap (λ n. built n (node_of c.list_of.result.tree)) schemas
     ∙ ap (built (object (schemas_under d s (choice_schema d) (members_of_place t p)))) one_of

@@ -1,4 +1,4 @@
-use Rattle.std.proofs.Common.{◌≡◌, ◌+◌, ◌<◌, length, ◌∙◌, arith, rules}
+use Rattle.std.proofs.Common.{◌≡◌, ◌+◌, ◌<◌, length, arith, rules}
 use Rattle.sm_tree.specs.View.{members_view, node_of}
 use Rattle.sm_shapes.specs.TableView.{table_data}
 use Rattle.sm_schema.specs.Definitions.{definition_name}
@@ -20,6 +20,6 @@ loop-number-preserved c =
     let lt : n < length c.args.all.now.places.items =
     omega (arith, c.args.all.now.places.ok.0, c.len-number-end.ensures, c.loop-number-test.true) in
     let named : c.as_str.result.now ≡ definition_name n = search rules in
-    definition_put d c.args.all.now.places.items n (n + 1) c.index.result.now (members_view c.loop-number.pairs.items)
-    (members_view c.put.new.pairs.items) c.as_str.result.now (node_of c.in_ok-tree.tree) (definitions d 0 (places_in c.args.all.now)) lt
+    definition_put d c.args.all.now.places.items n (n + 1) c.index.result.now (members_view c.loop-number.pairs.pairs.items)
+    (members_view c.put.new.pairs.pairs.items) c.as_str.result.now (node_of c.in_ok-tree.tree.tree) (definitions d 0 (places_in c.args.all.now)) lt
     c.index.ensures (omega arith) c.in_ok-put.ensures named c.in_ok-tree.ensures c.loop-number.invariant

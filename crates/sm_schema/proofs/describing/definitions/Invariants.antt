@@ -8,6 +8,6 @@ use Rattle.sm_schema.proofs.describing.definitions.Given as goal
 
 abbrev pub invariant-loop-number : goal.invariant-loop-number
 invariant-loop-number l =
-    joined (members_view l.pairs.items)
+    joined (members_view l.pairs.pairs.items)
     (definitions (listing_of (table_data l.table) l.json_names l.all) l.number-counter (drop l.number-counter (places_in l.all)))
     ≡ definitions (listing_of (table_data l.table) l.json_names l.all) 0 (places_in l.all)

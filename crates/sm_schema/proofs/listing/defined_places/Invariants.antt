@@ -1,4 +1,4 @@
-use Rattle.std.proofs.Common.{◌≡◌, ◌≤◌, ℕ, List, length}
+use Rattle.std.proofs.Common.{◌≤◌, ℕ, List, length}
 use Rattle.sm_shapes.specs.Places.{Place}
 use Rattle.sm_shapes.specs.TableView.{table_data}
 use Rattle.sm_schema.specs.Definitions.{Listed}

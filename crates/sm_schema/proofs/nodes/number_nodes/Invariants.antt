@@ -6,4 +6,4 @@ use Rattle.sm_schema.proofs.nodes.number_nodes.Given as goal
 
 abbrev pub invariant-loop-number : goal.invariant-loop-number
 invariant-loop-number l =
-    entries_joined (nodes_view l.entries.items) (number_nodes (drop l.number-index l.numbers)) ≡ number_nodes l.numbers
+    entries_joined (nodes_view l.entries.entries.items) (number_nodes (drop l.number-index l.numbers)) ≡ number_nodes l.numbers

@@ -6,4 +6,4 @@ use Rattle.sm_schema.proofs.nodes.object_of.Goals as goal
 
 pub returns : goal.returns
 returns c =
-    node_object_pairs c.new.result ∙ ap (λ ms. object (members_of ms)) c.new.ensures ∙ object_joined c.args.pairs.items
+    node_object_pairs c.new.result ∙ ap (λ ms. object (members_of ms)) c.new.ensures ∙ object_joined c.args.pairs.pairs.items

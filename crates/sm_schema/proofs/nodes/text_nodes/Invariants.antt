@@ -6,4 +6,4 @@ use Rattle.sm_schema.proofs.nodes.text_nodes.Given as goal
 
 abbrev pub invariant-loop-text : goal.invariant-loop-text
 invariant-loop-text l =
-    entries_joined (nodes_view l.entries.items) (text_nodes (drop l.text-index l.texts)) ≡ text_nodes l.texts
+    entries_joined (nodes_view l.entries.entries.items) (text_nodes (drop l.text-index l.texts)) ≡ text_nodes l.texts
