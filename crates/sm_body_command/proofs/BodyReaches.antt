@@ -6,16 +6,13 @@ use Rattle.sm_asked.specs.Answer.InputUse.{untouched}
 use Rattle.sm_asked.specs.AskedLaws.{ReachesInput, WritesAsNamed}
 use Rattle.sm_asked.specs.Stages.{Told}
 use Rattle.sm_asked.proofs.Answered.{none_is_some}
+use Rattle.sm_asked_shape.specs.ShapeStages.{ShapeServed}
 use Rattle.sm_body_command.specs.Body.{BodySays, body_asked}
-use Rattle.sm_body_command.specs.Body.BodySays.{not_loaded, no_shape, pattern, unserved, long_input, by_text}
-use Rattle.sm_body_command.specs.BodyStages.{ShapeServed}
+use Rattle.sm_body_command.specs.Body.BodySays.{not_served, long_input, by_text}
 
 says_reaches : (t : Told) (model shape : List ℕ) (near far : BodyForm) (c : Came) → BodySays t model shape near far c
     → (c.input ≡ untouched) ⊎ ShapeServed t model shape
-says_reaches t model shape near far c (not_loaded a h e) = inl (ap (λ (x : Came). x.input) e)
-says_reaches t model shape near far c (no_shape loaded none e) = inl (ap (λ (x : Came). x.input) e)
-says_reaches t model shape near far c (pattern sound u id is first e) = inl (ap (λ (x : Came). x.input) e)
-says_reaches t model shape near far c (unserved table path is e) = inl (ap (λ (x : Came). x.input) e)
+says_reaches t model shape near far c (not_served a h e) = inl (ap (λ (x : Came). x.input) e)
 says_reaches t model shape near far c (long_input served input is long e) = inr served
 says_reaches t model shape near far c (by_text input a says e) = inr input.served
 
@@ -24,10 +21,7 @@ body_reaches model shape near far t = (λ c says. says_reaches t model shape nea
 
 -- it writes no file
 writes_none : (t : Told) (model shape : List ℕ) (near far : BodyForm) (c : Came) → BodySays t model shape near far c → c.written ≡ None
-writes_none t model shape near far c (not_loaded a h e) = ap (λ (x : Came). x.written) e
-writes_none t model shape near far c (no_shape loaded none e) = ap (λ (x : Came). x.written) e
-writes_none t model shape near far c (pattern sound u id is first e) = ap (λ (x : Came). x.written) e
-writes_none t model shape near far c (unserved table path is e) = ap (λ (x : Came). x.written) e
+writes_none t model shape near far c (not_served a h e) = ap (λ (x : Came). x.written) e
 writes_none t model shape near far c (long_input served input is long e) = ap (λ (x : Came). x.written) e
 writes_none t model shape near far c (by_text input a says e) = ap (λ (x : Came). x.written) e
 

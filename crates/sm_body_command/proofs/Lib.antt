@@ -1,8 +1,5 @@
 pub mod SideWords
-pub mod TablesMade
-pub mod ShapesNamed
-pub mod LoadedSpelled
-pub mod OneBody
-pub mod SomeBody
+mod OneBody
+mod SomeBody
 pub mod BodyReaches
-pub mod Bodies
+mod Bodies

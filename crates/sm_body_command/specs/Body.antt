@@ -1,25 +1,20 @@
--- What the command `body` comes to, over bytes alone. The decisions stand in their order: the model file, the shape, its patterns, whether
--- its values are served; the input's length, its syntax, its faults, and a leaf that the far side doesn't carry. Of each shape of a model
--- that is loaded a table can be made.
-use Rattle.std.specs.Prelude.{◌≡◌, ℕ, ◌<◌, true, false, List, [], ◌∷◌, Some, length}
+-- What the command `body` comes to, over bytes alone. The decisions stand in their order: those of the shape, which are the model file, the
+-- shape, its patterns, and whether its values are served; then the input's length, its syntax, its faults, and a leaf that the far side
+-- doesn't carry.
+use Rattle.std.specs.Prelude.{◌≡◌, ℕ, ◌<◌, true, false, List, [], ◌∷◌, length}
 use Rattle.sm_shapes.specs.Places.{root_place}
 use Rattle.sm_bodies.specs.TextAnswers.{TextAnswer, TextAnswers, the_text, the_refusal, the_fault}
 use Rattle.sm_bodies.specs.declared.form.BodyForm.{BodyForm}
-use Rattle.sm_compile.specs.Compiled.{IsFirstCarrier}
-use Rattle.sm_compile.specs.Reached.{IsReached}
-use Rattle.sm_compile.specs.Sound.{IsValueShape}
-use Rattle.sm_compile.specs.declared.compiled.Served.{Served}
-use Rattle.sm_compile.specs.declared.compiled.Served.TheVariants.{Unserved}
-use Rattle.sm_asked.specs.Answer.{Answer, Came, done, refused, pattern_refused, past, came}
+use Rattle.sm_lines.specs.Lines.{fault_line, syntax_line}
+use Rattle.sm_asked.specs.Answer.{Answer, Came, done, refused, past, came}
 use Rattle.sm_asked.specs.Answer.InputUse.{untouched, to_its_end, past_its_limit}
 use Rattle.sm_asked.specs.CommandAsked.{CommandAsked}
-use Rattle.sm_body_command.specs.BodyStages.{ShapeThere, TableMade, ShapeServed, InputRead, table_of}
 use Rattle.sm_asked.specs.Limits.{body_limit}
-use Rattle.sm_asked.specs.Lines.{no_shape_line, pattern_line, body_limit_line}
-use Rattle.sm_lines.specs.Lines.{unserved_line, fault_line, syntax_line}
-use Rattle.sm_asked.specs.Loading.{Loaded, LoadAnswers}
+use Rattle.sm_asked.specs.Lines.{body_limit_line}
 use Rattle.sm_asked.specs.Stages.{Told, IsInput}
-use Rattle.sm_asked.specs.declared.lines.Shown.TheVariants.{Errors}
+use Rattle.sm_asked_shape.specs.ShapeAnswers.{ShapeAnswers}
+use Rattle.sm_asked_shape.specs.ShapeStages.{ShapeServed, table_of}
+use Rattle.sm_body_command.specs.BodyStages.{InputRead}
 
 -- what is printed for what a body comes to
 abbrev pub printed : TextAnswer → Answer
@@ -29,14 +24,7 @@ printed (the_fault path kind) = refused (fault_line path kind)
 
 -- what the command comes to, in this order
 pub data BodySays (t : Told) (name shape : List ℕ) (near far : BodyForm) (c : Came) : Type 0 where
-  not_loaded : (a : Answer) → LoadAnswers Errors t.files (name ∷ []) a → c ≡ came untouched a → BodySays t name shape near far c
-  no_shape : (loaded : Loaded t.files (name ∷ [])) → (IsValueShape loaded.graph shape → ⊥)
-      → c ≡ came untouched (refused (no_shape_line shape)) → BodySays t name shape near far c
-  pattern : (there : ShapeThere t name shape) → (u id : List ℕ) → t.refused ≡ Some u
-      → IsFirstCarrier there.loaded.graph (IsReached there.loaded.graph shape) u id
-      → c ≡ came untouched (pattern_refused (pattern_line id)) → BodySays t name shape near far c
-  unserved : (table : TableMade t name shape) → (path : List ℕ) → Path Served table.one.served (Unserved path)
-      → c ≡ came untouched (refused (unserved_line path)) → BodySays t name shape near far c
+  not_served : (a : Answer) → ShapeAnswers t name shape a → c ≡ came untouched a → BodySays t name shape near far c
   long_input : (served : ShapeServed t name shape) → (input : List ℕ) → IsInput t.input input → body_limit < length input
       → c ≡ came past_its_limit (past body_limit_line) → BodySays t name shape near far c
   by_text : (input : InputRead t name shape) → (a : TextAnswer)

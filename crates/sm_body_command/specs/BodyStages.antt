@@ -1,34 +1,8 @@
--- How far the command `body` has come, over bytes alone: behind the graph of its model file a shape that has values; its table, with what
--- a store of patterns did for it; that values of the shape are served; and the input.
-use Rattle.std.specs.Prelude.{◌≡◌, ℕ, ◌≤◌, List, [], ◌∷◌, Contains, Some, length}
-use Rattle.sm_shapes.specs.TableData.{TableData}
-use Rattle.sm_codec.specs.Defaults.{filled}
-use Rattle.sm_compile.specs.Answers.{StoreSeen, TableSeen, IsTableSeen}
-use Rattle.sm_compile.specs.Compiled.{texts_of}
-use Rattle.sm_compile.specs.Sound.{IsValueShape}
-use Rattle.sm_compile.specs.declared.compiled.Served.{Served}
-use Rattle.sm_compile.specs.declared.compiled.Served.TheVariants.{Yes}
+-- How far the command `body` has come behind a shape of its model file whose values are served, over bytes alone: the input is read.
+use Rattle.std.specs.Prelude.{ℕ, ◌≤◌, List, length}
 use Rattle.sm_asked.specs.Limits.{body_limit}
-use Rattle.sm_asked.specs.Loading.{Loaded}
 use Rattle.sm_asked.specs.Stages.{Told, IsInput}
-
--- the model file comes to a graph, which has a shape of this id with values
-pub record ShapeThere (t : Told) (name shape : List ℕ) : Type 0 where
-  pub loaded : Loaded t.files (name ∷ [])
-  pub is : IsValueShape loaded.graph shape
-
--- its table over the store as it was, of whose patterns the store refuses none
-pub record TableMade (t : Told) (name shape : List ℕ) : Type 0 where
-  pub there : ShapeThere t name shape
-  pub now : StoreSeen
-  pub one : TableSeen
-  pub compiled : IsTableSeen there.loaded.graph shape t.test t.store now one
-  pub free : (u : List ℕ) → t.refused ≡ Some u → Contains (texts_of one.table.patterns) u → ⊥
-
--- its values can be carried
-pub record ShapeServed (t : Told) (name shape : List ℕ) : Type 0 where
-  pub table : TableMade t name shape
-  pub served : Path Served table.one.served Yes
+use Rattle.sm_asked_shape.specs.ShapeStages.{ShapeServed}
 
 -- the input is within its limit
 pub record InputRead (t : Told) (name shape : List ℕ) : Type 0 where
@@ -36,7 +10,3 @@ pub record InputRead (t : Told) (name shape : List ℕ) : Type 0 where
   pub bytes : List ℕ
   pub is_input : IsInput t.input bytes
   pub within : length bytes ≤ body_limit
-
--- the table that counts: with the defaults that count
-abbrev pub table_of : (t : Told) (name shape : List ℕ) → TableMade t name shape → TableData
-table_of t name shape h = filled h.one.table t.test

@@ -1,5 +1,5 @@
 -- Words have the form of one command at most.
-use Rattle.std.proofs.Common.{◌≡◌, ℕ, false, true≢false, List, [], ◌∷◌, ◌++◌, sym, ap, ◌∙◌, refl, codes, bytes_eq}
+use Rattle.std.proofs.Common.{◌≡◌, ℕ, Bool, false, true≢false, List, [], ◌∷◌, ◌++◌, sym, ap, ◌∙◌, refl, codes, bytes_eq}
 use Rattle.std.proofs.lemmas.Slice.Eq.{bytes_eq-Decides}
 use Rattle.sm_bodies.specs.declared.form.BodyForm.{BodyForm}
 use Rattle.sm_asked.proofs.OverModels.{alone_same, over_same}
@@ -7,7 +7,9 @@ use Rattle.sm_model_commands.specs.Forms.{GraphForm, IsCheckForm, IsConvertForm,
 use Rattle.sm_model_commands.proofs.GraphWords.{convert_words_same}
 use Rattle.sm_body_command.specs.BodyWords.{IsBodyForm, form_word}
 use Rattle.sm_body_command.proofs.SideWords.{body_words_same}
-use Rattle.sm_commands.specs.Commands.{Command, body_command, check_command, convert_command, select_command}
+use Rattle.sm_schema_command.specs.SchemaForm.{IsSchemaForm, names_word}
+use Rattle.sm_schema_command.proofs.NamesWords.{schema_words_same}
+use Rattle.sm_commands.specs.Commands.{Command, body_command, check_command, convert_command, schema_command, select_command}
 use Rattle.sm_commands.specs.Commands.{IsCommandForm, IsNoForm, OneCommandForm, first_word}
 
 -- words that are told apart differ
@@ -20,6 +22,7 @@ begins words (check_command models) h = (models, h.are)
 begins words (body_command model shape near far) h = (model ∷ shape ∷ form_word near ∷ form_word far ∷ [], h)
 begins words (convert_command models form) h = (models ++ h.last ∷ [], h.over.are)
 begins words (select_command models selector) h = (models ++ selector ∷ [], h.are)
+begins words (schema_command model shape json_names) h = (model ∷ shape ∷ names_word json_names ∷ [], h)
 
 first_same : (words : List (List ℕ)) (x y : Command) → IsCommandForm words x → IsCommandForm words y → first_word x ≡ first_word y
 first_same words x y h i =
@@ -40,14 +43,21 @@ one_form words (convert_command models form) (convert_command models1 form1) h i
 one_form words (select_command models s) (select_command models1 s1) h i =
     let both = over_same words (codes "select") models models1 s s1 h i in
     ap (λ ms. select_command ms s) both.0 ∙ ap (λ x. select_command models1 x) both.1
+one_form words (schema_command model shape json_names) (schema_command model1 shape1 json_names1) h i =
+    let both = schema_words_same words model shape model1 shape1 json_names json_names1 h i in
+    ap (λ x. schema_command x shape json_names) both.same_model ∙ ap (λ x. schema_command model1 x json_names) both.same_shape
+    ∙ ap (λ x. schema_command model1 shape1 x) both.same_names
 one_form words x y h i = absurd (apart (first_word x) (first_word y) refl (first_same words x y h i))
 
 -- words of no command's form
 pub no_form : (words : List (List ℕ)) → ((models : List (List ℕ)) → IsCheckForm words models → ⊥)
     → ((model shape : List ℕ) (near far : BodyForm) → IsBodyForm words model shape near far → ⊥)
     → ((models : List (List ℕ)) (form : GraphForm) → IsConvertForm words models form → ⊥)
-    → ((models : List (List ℕ)) (selector : List ℕ) → IsSelectForm words models selector → ⊥) → IsNoForm words
-no_form words no_check no_body no_convert no_select (check_command models) h = no_check models h
-no_form words no_check no_body no_convert no_select (body_command model shape near far) h = no_body model shape near far h
-no_form words no_check no_body no_convert no_select (convert_command models form) h = no_convert models form h
-no_form words no_check no_body no_convert no_select (select_command models selector) h = no_select models selector h
+    → ((models : List (List ℕ)) (selector : List ℕ) → IsSelectForm words models selector → ⊥)
+    → ((model shape : List ℕ) (json_names : Bool) → IsSchemaForm words model shape json_names → ⊥) → IsNoForm words
+no_form words no_check no_body no_convert no_select no_schema (check_command models) h = no_check models h
+no_form words no_check no_body no_convert no_select no_schema (body_command model shape near far) h = no_body model shape near far h
+no_form words no_check no_body no_convert no_select no_schema (convert_command models form) h = no_convert models form h
+no_form words no_check no_body no_convert no_select no_schema (select_command models selector) h = no_select models selector h
+no_form words no_check no_body no_convert no_select no_schema (schema_command model shape json_names) h =
+    no_schema model shape json_names h

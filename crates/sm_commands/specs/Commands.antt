@@ -1,5 +1,5 @@
 -- The commands as data: the form of each one's words, and what each asks.
-use Rattle.std.specs.Prelude.{◌≡◌, ℕ, List, codes, Contains}
+use Rattle.std.specs.Prelude.{◌≡◌, ℕ, Bool, List, codes, Contains}
 use Rattle.sm_bodies.specs.declared.form.BodyForm.{BodyForm}
 use Rattle.sm_asked.specs.CommandAsked.{CommandAsked}
 use Rattle.sm_model_commands.specs.Check.{check_asked}
@@ -8,6 +8,8 @@ use Rattle.sm_model_commands.specs.Forms.{GraphForm, IsCheckForm, IsConvertForm,
 use Rattle.sm_model_commands.specs.Select.{select_asked}
 use Rattle.sm_body_command.specs.Body.{body_asked}
 use Rattle.sm_body_command.specs.BodyWords.{IsBodyForm}
+use Rattle.sm_schema_command.specs.Schema.{schema_asked}
+use Rattle.sm_schema_command.specs.SchemaForm.{IsSchemaForm}
 
 pub data Command : Type 0 where
   -- check MODEL+
@@ -18,6 +20,8 @@ pub data Command : Type 0 where
   convert_command : (models : List (List ℕ)) → (form : GraphForm) → Command
   -- select MODEL+ SELECTOR
   select_command : (models : List (List ℕ)) → (selector : List ℕ) → Command
+  -- schema MODELFILE SHAPE NAMES
+  schema_command : (model shape : List ℕ) → (json_names : Bool) → Command
 
 -- the words have the form of the command
 abbrev pub IsCommandForm : List (List ℕ) → Command → Type 0
@@ -25,6 +29,7 @@ IsCommandForm words (check_command models) = IsCheckForm words models
 IsCommandForm words (body_command model shape near far) = IsBodyForm words model shape near far
 IsCommandForm words (convert_command models form) = IsConvertForm words models form
 IsCommandForm words (select_command models selector) = IsSelectForm words models selector
+IsCommandForm words (schema_command model shape json_names) = IsSchemaForm words model shape json_names
 
 -- what it asks
 abbrev pub asked_of : Command → CommandAsked
@@ -32,6 +37,7 @@ asked_of (check_command models) = check_asked models
 asked_of (body_command model shape near far) = body_asked model shape near far
 asked_of (convert_command models form) = convert_asked models form
 asked_of (select_command models selector) = select_asked models selector
+asked_of (schema_command model shape json_names) = schema_asked model shape json_names
 
 -- its first word
 abbrev pub first_word : Command → List ℕ
@@ -39,6 +45,7 @@ first_word (check_command models) = codes "check"
 first_word (body_command model shape near far) = codes "body"
 first_word (convert_command models form) = codes "convert"
 first_word (select_command models selector) = codes "select"
+first_word (schema_command model shape json_names) = codes "schema"
 
 -- the words have the form of none
 abbrev pub IsNoForm : List (List ℕ) → Type 0

@@ -19,6 +19,7 @@ use sm_io::{Files, PutRefusal, Sink, Source};
 use sm_model_commands::check::check;
 use sm_model_commands::convert::convert;
 use sm_model_commands::select::select;
+use sm_schema_command::schema::schema;
 use sm_shapes::Patterns;
 use sm_tree::Text;
 use std::alloc::Global;
@@ -53,6 +54,7 @@ fn come_to<F: Files, S: Source, P: Patterns>(
         CommandForm::Body(words) => body(alloc, words, files, input, patterns),
         CommandForm::Convert(words) => convert(alloc, words, files),
         CommandForm::Select(words) => select(alloc, words, files),
+        CommandForm::Schema(words) => schema(alloc, words, files, patterns),
     }
 }
 
@@ -101,6 +103,8 @@ fn print<K: Sink>(out: &mut K, came: Result<Vec<u8>, CommandStop>) -> Status
 /// the graph (7), the events that reject the model (1); it doesn't touch the input. `select MODEL+ SELECTOR` prints the ids that the
 /// selector picks in their graph, one a line (0); what `convert` refuses is refused here too, and then a text that is no selector (1).
 /// `check MODEL+` prints all events of their model, one a line (0, or 1 where one of them rejects it); else what `convert` refuses.
+/// `schema MODELFILE SHAPE NAMES` prints the JSON Schema of a shape (0), by the names of members or by their JSON names; what `body` refuses
+/// before its input is refused here too.
 ///
 /// 2: the words have no form, and nothing is touched. 3: a read of the file or of the input failed, and nothing
 /// is put. 4: the output failed, and holds a prefix of what was to be put. 5: memory ran out, and nothing is put.

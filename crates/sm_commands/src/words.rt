@@ -7,6 +7,7 @@ use sm_body_command::{BodyWords, body_words};
 use sm_model_commands::{
     CheckWords, ConvertWords, SelectWords, check_words, convert_words, select_words,
 };
+use sm_schema_command::{SchemaWords, schema_words};
 use sm_tree::Text;
 
 /// The forms that words may have.
@@ -20,6 +21,8 @@ pub enum CommandForm<'a> {
     Convert(ConvertWords<'a>),
     /// `select MODEL+ SELECTOR`.
     Select(SelectWords<'a>),
+    /// `schema MODELFILE SHAPE NAMES`.
+    Schema(SchemaWords<'a>),
 }
 
 /// What the words ask for; `None` where they have none of the forms.
@@ -37,6 +40,9 @@ pub(crate) fn form_of(words: &[Text]) -> Option<CommandForm<'_>>
     }
     if let Some(words) = select_words(words) {
         return Some(CommandForm::Select(words));
+    }
+    if let Some(words) = schema_words(words) {
+        return Some(CommandForm::Schema(words));
     }
     None
 }

@@ -11,6 +11,8 @@ sm_tool check MODEL..
     Prints the events of model files by the rules of models: SEVERITY ID SHAPE DETAIL, one a line.
 sm_tool convert MODEL.. FORM
     Merges model files, and prints their graph: as a text of the JSON AST (ast), or a namespace of it in the IDL (idl:NAMESPACE).
+sm_tool schema MODELFILE SHAPE NAMES
+    Prints the JSON Schema of the shape, by the names of members or their JSON names: members or json.
 sm_tool select MODEL.. SELECTOR
     Prints the ids of the shapes and members that a selector picks in their graph.
 sm_tool COMMAND --help
@@ -74,6 +76,25 @@ status 0  the text is printed
        7  a limit is passed: 64 files, 4,194,304 bytes of a file, 33,554,432 of all, or one on the size of a model
 ";
 
+const SCHEMA: &str = "\
+sm_tool schema MODELFILE SHAPE NAMES
+    Prints the JSON Schema (2020-12) of the shape: it accepts the bodies that body reads, as far as a schema can say it.
+
+MODELFILE  one model file: the JSON AST where its name ends in .json, else the IDL
+SHAPE      the id of a shape that has values, as shop#Item or smithy.api#String
+NAMES      members for the names of members, json for their JSON names (the jsonName trait)
+
+    $ sm_tool schema shop.json smithy.api#Byte members
+    {\"$schema\":\"https://json-schema.org/draft/2020-12/schema\",\"$ref\":\"#/$defs/d0\",..
+
+status 0  the schema is printed
+       1  the model or the shape is refused: a line says why
+       2  the words have no form            3  a file can't be read
+       4  the output can't be written       5  memory ran out
+       6  a pattern of the shape is no regular expression that is known here
+       7  a limit is passed: a file of 4,194,304 bytes, or one on the size of a model
+";
+
 const SELECT: &str = "\
 sm_tool select MODEL.. SELECTOR
     Prints the ids of the shapes and members that a selector picks in the graph of model files, one a line.
@@ -97,6 +118,7 @@ pub fn help_of(command: &str) -> Option<&'static str> {
         "body" => Some(BODY),
         "check" => Some(CHECK),
         "convert" => Some(CONVERT),
+        "schema" => Some(SCHEMA),
         "select" => Some(SELECT),
         _ => None,
     }
@@ -108,7 +130,9 @@ pub fn usage_of(command: &str) -> &'static str {
         "body" => "sm_tool body MODELFILE SHAPE NEAR FAR, where NEAR and FAR are json or cbor",
         "check" => "sm_tool check MODEL..",
         "convert" => "sm_tool convert MODEL.. FORM, where FORM is ast, or idl: and a namespace",
+        "schema" => "sm_tool schema MODELFILE SHAPE NAMES, where NAMES is members or json",
         "select" => "sm_tool select MODEL.. SELECTOR",
-        _ => "sm_tool body, check, convert or select and its words; sm_tool --help lists them",
+        _ =>
+            "sm_tool body, check, convert, schema or select and its words; sm_tool --help lists them",
     }
 }

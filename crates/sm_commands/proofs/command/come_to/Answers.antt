@@ -61,3 +61,18 @@ returns-in-Select-clause-comes g c =
     (files_come models (λ held a. SelectSays held models c.in-Select.words.selector.now a) files files1
     input g.P.Patterns.test store c.select.result
     c.select.ensures.held c.select.ensures.comes)
+
+pub returns-in-Schema-clause-comes : goal.returns-in-Schema-clause-comes
+returns-in-Schema-clause-comes g c =
+    let files = files_seen (g.F.Files.held c.args.files.now) (g.F.Files.read_faults c.args.files.now)
+    (g.F.Files.write_faults c.args.files.now) in
+    let files1 = files_seen (g.F.Files.held c.schema.new.files) (g.F.Files.read_faults c.schema.new.files)
+    (g.F.Files.write_faults c.schema.new.files) in
+    let input = stream (g.S.Source.left c.args.input.now) (g.S.Source.faults c.args.input.now) in
+    let store = seen_store (g.P.Patterns.added c.args.patterns.now) (g.P.Patterns.refused c.args.patterns.now)
+    (g.P.Patterns.refusals c.args.patterns.now) in
+    let store1 = seen_store (g.P.Patterns.added c.schema.new.patterns) (g.P.Patterns.refused c.schema.new.patterns)
+    (g.P.Patterns.refusals c.schema.new.patterns) in
+    subst (λ f. CommandComesTo (inputs_seen files input g.P.Patterns.test store) (inputs_seen files1 input g.P.Patterns.test store1)
+    (asked_of (command_of f)) c.schema.result)
+    (sym c.in-Schema.is) (c.schema.ensures.comes input)

@@ -3,10 +3,10 @@ use Rattle.sm_model.specs.GraphView.{maps_of}
 use Rattle.sm_compile.specs.Answers.{seen_store}
 use Rattle.sm_compile.specs.Sound.{Sound}
 use Rattle.sm_asked.specs.Lines.{no_shape_line}
-use Rattle.sm_body_command.specs.steps.BodySteps.{MakesTable}
-use Rattle.sm_body_command.proofs.Bodies.{shape_lacks}
-use Rattle.sm_body_command.proofs.ShapesNamed.{id_named, none_there, number_names}
-use Rattle.sm_body_command.proofs.body.table_named.Goals as goal
+use Rattle.sm_asked_shape.specs.steps.ShapeSteps.{MakesTable}
+use Rattle.sm_asked_shape.proofs.TablesNamed.{shape_lacks}
+use Rattle.sm_asked_shape.proofs.ShapesNamed.{id_named, none_there, number_names}
+use Rattle.sm_asked_shape.proofs.shape.table_named.Goals as goal
 
 pub compiled-requires : goal.compiled-requires
 compiled-requires g c =

@@ -5,8 +5,8 @@ use Rattle.sm_model.specs.GraphView.{maps_of}
 use Rattle.sm_compile.specs.Answers.{seen_store}
 use Rattle.sm_compile.specs.Sound.{Sound}
 use Rattle.sm_asked.specs.Lines.{no_shape_line, pattern_line}
-use Rattle.sm_body_command.proofs.Bodies.{compiled_lacks, compiled_refused, compiled_table}
-use Rattle.sm_body_command.proofs.body.compiled.Goals as goal
+use Rattle.sm_asked_shape.proofs.TablesNamed.{compiled_lacks, compiled_refused, compiled_table}
+use Rattle.sm_asked_shape.proofs.shape.compiled.Goals as goal
 
 pub compile_shape-requires : goal.compile_shape-requires
 compile_shape-requires g c = record { sound = subst (Sound (maps_of c.args.graph.now)) c.as_ref-shape.ensures.spelled c.requires }

@@ -1,0 +1,3 @@
+pub mod NamesWords
+mod Schemas
+mod OneSchema

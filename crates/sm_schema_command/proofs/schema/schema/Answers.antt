@@ -1,0 +1,44 @@
+use Rattle.sm_io.specs.Seen.{files_seen}
+use Rattle.sm_compile.specs.Answers.{seen_store}
+use Rattle.sm_schema_command.proofs.Schemas.{schema_printed, schema_short, schema_stops}
+use Rattle.sm_schema_command.proofs.schema.schema.Goals as goal
+
+pub returns-in-Ok-schema_text-clause-comes : goal.returns-in-Ok-schema_text-clause-comes
+returns-in-Ok-schema_text-clause-comes g c = λ input.
+    schema_printed (files_seen (g.F.Files.held c.args.files.now) (g.F.Files.read_faults c.args.files.now)
+    (g.F.Files.write_faults c.args.files.now))
+    (files_seen (g.F.Files.held c.load_shape.new.files) (g.F.Files.read_faults c.load_shape.new.files)
+    (g.F.Files.write_faults c.load_shape.new.files))
+    g.P.Patterns.test
+    (seen_store (g.P.Patterns.added c.args.patterns.now) (g.P.Patterns.refused c.args.patterns.now)
+    (g.P.Patterns.refusals c.args.patterns.now))
+    (seen_store (g.P.Patterns.added c.load_shape.new.patterns) (g.P.Patterns.refused c.load_shape.new.patterns)
+    (g.P.Patterns.refusals c.load_shape.new.patterns))
+    c.args.words.model.now c.args.words.shape.now c.args.words.json_names input c.in-Ok.one c.in-Ok-schema_text.text c.in-Ok.ensures.loads
+    c.in-Ok-schema_text.ensures
+
+pub returns-in-Ok-clause-comes : goal.returns-in-Ok-clause-comes
+returns-in-Ok-clause-comes g c = λ input.
+    schema_short (files_seen (g.F.Files.held c.args.files.now) (g.F.Files.read_faults c.args.files.now)
+    (g.F.Files.write_faults c.args.files.now))
+    (files_seen (g.F.Files.held c.load_shape.new.files) (g.F.Files.read_faults c.load_shape.new.files)
+    (g.F.Files.write_faults c.load_shape.new.files))
+    g.P.Patterns.test
+    (seen_store (g.P.Patterns.added c.args.patterns.now) (g.P.Patterns.refused c.args.patterns.now)
+    (g.P.Patterns.refusals c.args.patterns.now))
+    (seen_store (g.P.Patterns.added c.load_shape.new.patterns) (g.P.Patterns.refused c.load_shape.new.patterns)
+    (g.P.Patterns.refusals c.load_shape.new.patterns))
+    c.args.words.model.now c.args.words.shape.now c.args.words.json_names input c.in-Ok.one c.in-Ok.ensures.loads
+
+pub returns-clause-comes : goal.returns-clause-comes
+returns-clause-comes g c = λ input.
+    schema_stops (files_seen (g.F.Files.held c.args.files.now) (g.F.Files.read_faults c.args.files.now)
+    (g.F.Files.write_faults c.args.files.now))
+    (files_seen (g.F.Files.held c.load_shape.new.files) (g.F.Files.read_faults c.load_shape.new.files)
+    (g.F.Files.write_faults c.load_shape.new.files))
+    g.P.Patterns.test
+    (seen_store (g.P.Patterns.added c.args.patterns.now) (g.P.Patterns.refused c.args.patterns.now)
+    (g.P.Patterns.refusals c.args.patterns.now))
+    (seen_store (g.P.Patterns.added c.load_shape.new.patterns) (g.P.Patterns.refused c.load_shape.new.patterns)
+    (g.P.Patterns.refusals c.load_shape.new.patterns))
+    c.args.words.model.now c.args.words.shape.now c.args.words.json_names input c.in-Err.stop c.load_shape.ensures.held c.in-Err.ensures.loads

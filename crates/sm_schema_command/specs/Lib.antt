@@ -1,0 +1,3 @@
+pub mod SchemaForm
+pub mod Schema
+pub mod steps

@@ -1,0 +1,21 @@
+// What holds of what the command comes to. These calls do nothing.
+ghost use Rattle.std.specs.Prelude.{List, ℕ, Bool};
+ghost use Rattle.sm_asked.specs.AskedLaws.{ComesToOne, ComesToSome};
+ghost use Rattle.sm_schema_command.specs.Schema.{schema_asked};
+
+/// A model file and a store of patterns come to one thing.
+pub fn one_answer()
+    ensures { (model shape : List ℕ) (json_names : Bool) → ComesToOne (schema_asked model shape json_names) }
+{
+    sm_schema::laws::one_schema();
+}
+
+/// Where the model file is there, they come to some.
+pub fn some_answer()
+    ensures { (model shape : List ℕ) (json_names : Bool) → ComesToSome (schema_asked model shape json_names) }
+{
+    sm_schema::laws::some_schema();
+    sm_compile::laws::some_table();
+    sm_load::laws::some_load();
+    sm_load::laws::sound_models();
+}
