@@ -1,0 +1,4 @@
+mod Counted
+mod KeptNames
+mod GrowingBodies
+mod SideBodies

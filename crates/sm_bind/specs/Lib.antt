@@ -1,0 +1,5 @@
+pub mod Roles
+pub mod PartsData
+pub mod Documents
+pub mod BindingsView
+pub mod steps

@@ -1,0 +1,14 @@
+// Bindings of HTTP (Smithy 2.0, "HTTP binding traits"): which binding of a member counts, what stands in the document, and the table by
+// which documents are read.
+#![tactic(auto)]
+
+mod bindings;
+mod documents;
+mod members;
+mod parts;
+mod side;
+
+pub use bindings::Bindings;
+pub use members::{has_document, is_in_document};
+pub use parts::Parts;
+pub use side::{PartSide, counts};
