@@ -1,0 +1,6 @@
+mod OneCrossing
+mod ValuesRead
+mod ValuesKept
+mod EachForm
+mod GatewayLaws
+mod RefusalsSaid
