@@ -2,6 +2,7 @@
 
 A definition is a word at the head of a file of specs/, with all of its lines; a constructor or a field is part of its type's. A word leads to
 those that its lines name, through the file's imports."""
+import functools
 import glob
 import os
 import re
@@ -13,6 +14,7 @@ WORD = re.compile(r'(?:abbrev )?(?:pub )?([^\s:({]+)\s*:(?!=)')
 TOKEN = re.compile(r"[^\W\d][\w'-]*|[^\s\w(){}\[\],.;:]+")
 
 
+@functools.cache
 def read(path):
     with open(f'{TOP}/{path}', encoding='utf-8') as file:
         return file.read()
@@ -22,6 +24,7 @@ def read_if_there(path):
     return read(path) if os.path.exists(f'{TOP}/{path}') else ''
 
 
+@functools.cache
 def crates():
     """Each crate of crates.txt, lowest first, with the libraries that it names."""
     found = {}
@@ -32,6 +35,7 @@ def crates():
     return found
 
 
+@functools.cache
 def imports_of(text):
     """Each name that a text imports: the crate, the module, and its word there (none where the name is the module's)."""
     names = {}
@@ -48,6 +52,7 @@ def imports_of(text):
     return names
 
 
+@functools.cache
 def tokens(text):
     return set(TOKEN.findall(text))
 
@@ -96,7 +101,9 @@ class Believed:
         self.seen = {}      # by file: its words
         self.order = []     # files, each behind those that its words need
 
-    def file_of(self, crate, module):
+    @staticmethod
+    @functools.cache
+    def file_of(crate, module):
         parts = module.split('.')
         while len(parts) > 1:
             path = f'crates/{crate}/{"/".join(parts)}.antt'
@@ -106,7 +113,7 @@ class Believed:
         return None
 
     def go(self, crate, module, word):
-        path = self.file_of(crate, module) if word and os.path.isdir(f'{TOP}/crates/{crate}') else None
+        path = self.file_of(crate, module) if word and crate in crates() else None
         if path:
             self.see(path, word)
 
@@ -152,8 +159,13 @@ def owner_of(rest):
     return found.group(0) if found else None
 
 
+@functools.cache
 def public_calls(crate):
     """Each public call of a crate: (file, line, name, its clauses with their braces)."""
+    return tuple(calls_in(crate))
+
+
+def calls_in(crate):
     names, opened = exported(crate)
     for path in sorted(glob.glob(f'{TOP}/crates/{crate}/src/**/*.rt', recursive=True)):
         path = os.path.relpath(path, TOP)
@@ -179,6 +191,12 @@ def public_calls(crate):
                     yield path, at + 1, called, said
                 at = end
             at += 1
+
+
+@functools.cache
+def believed_by(crate):
+    """The definitions to which the clauses of a crate's public calls lead."""
+    return believed_of(public_calls(crate))
 
 
 def believed_of(calls):
