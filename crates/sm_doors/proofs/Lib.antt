@@ -1,0 +1,2 @@
+mod NextLink
+mod Numbered

@@ -1,0 +1,3 @@
+pub mod DoorsSeen
+pub mod Bytes
+pub mod MemSeen
