@@ -8,19 +8,20 @@ use Rattle.sm_http.specs.declared.message.MessageSide.TheVariants.{Request as of
 use Rattle.sm_http.specs.Laws.{HasOneFraming, HasSomeFraming}
 use Rattle.sm_service.specs.ServiceData.{ServiceData}
 use Rattle.sm_session.specs.Laws.{HasOneAsked, HasOneReply, HasOneSession, HasSomeAsked, HasSomeReply, HasSomeSession}
-use Rattle.sm_session.specs.Turns.{answered, asks}
+use Rattle.sm_session.specs.Turns.{Asked, answered, asks}
 use Rattle.sm_session.proofs.SessionsOnce.{one_session_said}
 use Rattle.sm_session.proofs.SessionsThere.{some_session_said}
 use Rattle.sm_session.proofs.TurnsOnce.{one_turn_said, some_turn_said}
 use Rattle.sm_messages.specs.Crossings.{Crossing, crosses, or_by, stays, towards}
 use Rattle.sm_messages.specs.Goals.{Goal, a_request, a_response, operation_at}
 use Rattle.sm_messages.specs.HeadAnswers.{path_unserved}
-use Rattle.sm_messages.specs.IsForm.{ReadsMessages, Serves, ServesOperation}
+use Rattle.sm_messages.specs.IsForm.{Serves, ServesOperation}
 use Rattle.sm_messages.specs.MessageForm.{MessageForm}
 use Rattle.sm_messages.proofs.CrossedMessages.{crosses_or_refused}
 use Rattle.sm_gateway.specs.GatewayData.{GatewayData, ServesAtBoth, ServesBoth, back_form, front_form}
 use Rattle.sm_gateway.specs.GatewayTurns.{GatewayAsks, GatewayReplies, RequestCrosses, ResponseCrosses, asked_of, gateway_turn, replied_of}
 use Rattle.sm_gateway.specs.RefusalAnswers.{refusal_answer}
+use Rattle.sm_gateway.specs.steps.Reading.{AsksSo, ReadsBoth, RepliesSo, Stands}
 use Rattle.sm_gateway.proofs.OneCrossing.{one_crossing, some_crossing}
 
 -- what both ends serve is served from either side
@@ -42,11 +43,6 @@ operation_other_way near far s o h = record { within = h.within; served = by (op
         → path_unserved served (or_by (far.restriction s o) (near.restriction s o)) ≡ None
     by Yes e = none_either (near.restriction s o) (far.restriction s o) e
     by (Unserved path) e = absurd cc
-
--- both forms read messages
-pub record ReadsBoth (g : GatewayData) : Type 0 where
-  pub front : ReadsMessages (front_form g)
-  pub back : ReadsMessages (back_form g)
 
 -- a request that crosses is one for an operation that both ends serve
 pub served_at_both : (g : GatewayData) (test : Test) → ServesBoth g test → ReadsBoth g → (m far : Message) (goal : Goal)
@@ -104,6 +100,21 @@ some_reply g test serves reads m said text x deny = by x.crossing x.crossed x.sa
         (operation_other_way (front_form g) (back_form g) g.service goal.operation served)
         (λ c y. deny (replied_of c)
         (record { goal = goal; far = far; request = crossed; crossing = c; crossed = y; same = refl }))
+
+-- where it is one thing it is that alone
+pub asks_so : (g : GatewayData) (test : Test) → Stands g test → (m : Message) (a : Asked) → GatewayAsks g test m a → AsksSo g test m a
+asks_so g test stands m a x = (x, λ b y. one_asked g test stands.0 stands.1 m a b x y)
+
+pub replies_so : (g : GatewayData) (test : Test) → Stands g test → (m said a : Message) → GatewayReplies g test m said a
+    → RepliesSo g test m said a
+replies_so g test stands m said a x = (x, λ b y. one_reply g test stands.0 stands.1 m said a b x y)
+
+pub some_asked_so : (g : GatewayData) (test : Test) → Stands g test → HasSomeAsked (AsksSo g test)
+some_asked_so g test stands m deny = some_asked g test stands.0 stands.1 m (λ a x. deny a (asks_so g test stands m a x))
+
+pub some_reply_so : (g : GatewayData) (test : Test) → Stands g test → HasSomeReply (AsksSo g test) (RepliesSo g test)
+some_reply_so g test stands m said text x deny =
+    some_reply g test stands.0 stands.1 m said text x.0 (λ a y. deny a (replies_so g test stands m said a y))
 
 pub one_gateway_session : (g : GatewayData) (test : Test) → ServesBoth g test → ReadsBoth g → HasOneFraming of_requests
     → HasOneFraming of_responses → HasOneSession (gateway_turn g test)

@@ -1,6 +1,13 @@
 mod OneCrossing
 mod ValuesRead
 mod ValuesKept
-mod EachForm
 mod GatewayLaws
+mod HeadsTowards
+mod RestrictionsMade
 mod RefusalsSaid
+mod MessagesBegun
+mod MessagesFinished
+mod ValuesCarried
+mod MessagesCrossed
+mod MessagesRead
+mod SessionsAlike

@@ -1,12 +1,29 @@
--- What the answers to refusals stand for.
-use Rattle.std.specs.Prelude.{◌≡◌, Bool, Option, None, Some}
+-- What the calls of a gateway answer.
+use Rattle.std.specs.Prelude.{◌≡◌, ℕ, Bool, Option, None, Some, Result, Ok, Err}
+use Rattle.sm_shapes.specs.Fitting.{Test}
 use Rattle.sm_http.specs.declared.message.Message.{Message}
+use Rattle.sm_messages.specs.Answers.{RefusedAs}
+use Rattle.sm_messages.specs.Crossings.{crosses, stays}
+use Rattle.sm_messages.specs.Goals.{Goal, goal_of, the_input}
 use Rattle.sm_messages.specs.HeadAnswers.{not_served, unknown_error, unknown_operation, wrong_media_type, wrong_protocol}
 use Rattle.sm_messages.specs.MessageAnswers.{Refusal, by_fault, by_head, by_syntax}
 use Rattle.sm_messages.specs.declared.refusal.MessageRefusal.{MessageRefusal}
 use Rattle.sm_messages.specs.declared.refusal.MessageRefusal.TheVariants.{Fault, MediaType, NoMemory, Protocol, Syntax, UnknownError}
 use Rattle.sm_messages.specs.declared.refusal.MessageRefusal.TheVariants.{UnknownOperation, Unserved}
+use Rattle.sm_gateway.specs.GatewayData.{GatewayData}
+use Rattle.sm_gateway.specs.GatewayTurns.{RequestCrosses, ResponseCrosses}
 use Rattle.sm_gateway.specs.RefusalAnswers.{closing, refusal_answer}
+use Rattle.sm_gateway.specs.declared.crossed.Crossed.{Crossed}
+
+-- a request crosses so, or is refused so
+abbrev pub CrossesRequest : GatewayData → Test → Message → Result Crossed MessageRefusal → Type 0
+CrossesRequest g test m (Ok crossed) = RequestCrosses g test m (crosses (goal_of crossed.operation the_input) crossed.message)
+CrossesRequest g test m (Err refusal) = RefusedAs (λ r. RequestCrosses g test m (stays r)) refusal
+
+-- and so the response to an operation
+abbrev pub CrossesResponse : GatewayData → Test → ℕ → Message → Result Message MessageRefusal → Type 0
+CrossesResponse g test o m (Ok far) = (goal : Goal) × ResponseCrosses g test o m (crosses goal far)
+CrossesResponse g test o m (Err refusal) = RefusedAs (λ r. ResponseCrosses g test o m (stays r)) refusal
 
 -- the refusal that a call tells: running out of memory is none
 abbrev pub refusal_said : MessageRefusal → Option Refusal

@@ -7,7 +7,7 @@ use Rattle.sm_service.specs.ServiceData.{ServiceData}
 use Rattle.sm_messages.specs.Crossings.{towards}
 use Rattle.sm_messages.specs.IsForm.{Serves, ServesOperation}
 use Rattle.sm_messages.specs.MessageForm.{MessageForm}
-use Rattle.sm_gateway.specs.Forms.{form_of}
+use Rattle.sm_protocols.specs.Forms.{form_of}
 
 pub record GatewayData : Type 0 where
   pub service : ServiceData

@@ -1,7 +1,7 @@
-pub mod Forms
 pub mod GatewayData
 pub mod RefusalAnswers
 pub mod GatewayTurns
 pub mod Answers
 pub mod Laws
+pub mod GatewayView
 pub mod steps

@@ -4,7 +4,7 @@ ghost use Rattle.sm_http.specs.Connections.{with_close as the_closing};
 ghost use Rattle.sm_session.specs.OwnAnswers.{framing_answer as the_framing_answer};
 ghost use Rattle.sm_messages.specs.Answers.{RefusedAs};
 ghost use Rattle.sm_messages.specs.MessageAnswers.{Refusal};
-ghost use Rattle.sm_gateway.specs.RefusalAnswers.{closing as closes_so, refusal_answer, refusal_line, refusal_status};
+ghost use Rattle.sm_gateway.specs.RefusalAnswers.{back_refusal_answer, closing as closes_so, refusal_answer, refusal_line, refusal_status};
 ghost use Rattle.sm_gateway.specs.RefusalAnswers.{word_line as the_word_line};
 ghost use Rattle.sm_gateway.specs.Answers.{AnswersRefusal, IsSaid};
 ghost use Rattle.sm_gateway.specs.steps.Telling.{ToldAs};
@@ -12,9 +12,12 @@ ghost use Rattle.sm_gateway.specs.steps.Telling.{ToldAs};
 use sm_http::{HttpRefusal, Message, with_close};
 use sm_lines::{fault_line, syntax_line, unserved_line};
 use sm_messages::MessageRefusal;
-use sm_session::{framing_answer, line_answer};
+use sm_session::{back_line, framing_answer, line_answer};
 use sm_tree::NoMemory;
 use std::alloc::Global;
+
+/// The status of an answer that the back caused (RFC 9110, section 15.6.3).
+const BAD_GATEWAY: u16 = 502;
 
 fn word_line(alloc: Global, word: &str) -> Result<Vec<u8>, NoMemory>
     ensures { IfOk result (λ line. line.items ≡ the_word_line word.now) }
@@ -80,11 +83,24 @@ pub fn answer_of(alloc: Global, refusal: &MessageRefusal, close: bool) -> Result
 }
 
 // The answer to a request that is refused so, whether the session ends behind it or not.
-fn refused_answer(alloc: Global, refusal: &MessageRefusal) -> Result<Message, NoMemory>
+pub(crate) fn refused_answer(alloc: Global, refusal: &MessageRefusal) -> Result<Message, NoMemory>
     ensures { IfOk result (λ answer. (r : Refusal) × IsSaid refusal.now r × (answer ≡ refusal_answer r)) }
 {
     let line = line_of(alloc, refusal)?;
     let answer = line_answer(alloc, status_of(refusal), line)?;
+    Ok(answer)
+}
+
+/// The answer to a request where the back's answer to it is refused so.
+pub(crate) fn back_refused_answer(
+    alloc: Global,
+    refusal: &MessageRefusal,
+) -> Result<Message, NoMemory>
+    ensures { IfOk result (λ answer. (r : Refusal) × IsSaid refusal.now r × (answer ≡ back_refusal_answer r)) }
+{
+    let line = line_of(alloc, refusal)?;
+    let told = back_line(alloc, line.as_slice())?;
+    let answer = line_answer(alloc, BAD_GATEWAY, told)?;
     Ok(answer)
 }
 

@@ -2,17 +2,14 @@
 ghost use Rattle.sm_http.specs.declared.message.Protocol.{Protocol};
 ghost use Rattle.sm_messages.specs.Crossings.{CrossesOrRefused};
 ghost use Rattle.sm_messages.specs.IsForm.{IsForm};
-ghost use Rattle.sm_gateway.specs.Forms.{form_of};
+ghost use Rattle.sm_protocols.specs.Forms.{form_of};
 ghost use Rattle.sm_gateway.specs.Laws.{OneCrossing, OneSession, SomeCrossing, SomeSession, ValuesKept};
 
 /// Each protocol is a form of messages.
 pub fn each_is_form()
     ensures { (p : Protocol) → IsForm (form_of p) }
 {
-    sm_cbor::laws::one_reading();
-    sm_cbor::laws::one_answer();
-    sm_cbor::laws::some_answer();
-    sm_cbor::laws::written_is_item();
+    sm_protocols::laws::each_is_form();
 }
 
 /// A message crosses exactly where its operation is served at both ends, it spells a value, its body nests at most 100 levels where it is

@@ -1,5 +1,5 @@
 use Rattle.sm_messages.proofs.CrossedMessages.{crosses_or_refused}
-use Rattle.sm_gateway.specs.Forms.{form_of}
+use Rattle.sm_protocols.specs.Forms.{form_of}
 use Rattle.sm_gateway.proofs.laws.crosses_or_refused.Goals as goal
 
 pub returns : goal.returns

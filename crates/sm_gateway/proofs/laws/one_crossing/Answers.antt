@@ -1,4 +1,4 @@
-use Rattle.sm_gateway.specs.Forms.{form_of}
+use Rattle.sm_protocols.specs.Forms.{form_of}
 use Rattle.sm_gateway.proofs.OneCrossing.{one_crossing}
 use Rattle.sm_gateway.proofs.laws.one_crossing.Goals as goal
 

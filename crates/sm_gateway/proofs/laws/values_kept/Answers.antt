@@ -1,4 +1,4 @@
-use Rattle.sm_gateway.specs.Forms.{form_of}
+use Rattle.sm_protocols.specs.Forms.{form_of}
 use Rattle.sm_gateway.proofs.ValuesKept.{values_kept}
 use Rattle.sm_gateway.proofs.laws.values_kept.Goals as goal
 

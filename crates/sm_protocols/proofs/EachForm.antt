@@ -5,7 +5,7 @@ use Rattle.sm_messages.specs.IsForm.{IsForm, ReadsMessages}
 use Rattle.sm_awsjson.specs.declared.version.AwsVersion.TheVariants.{V10, V11}
 use Rattle.sm_awsjson.proofs.AwsForm.{aws_is_form, aws_reads}
 use Rattle.sm_rpc.specs.Messages.{rpc_form}
-use Rattle.sm_gateway.specs.Forms.{form_of, unbuilt_form}
+use Rattle.sm_protocols.specs.Forms.{form_of, unbuilt_form}
 
 -- a form that serves no service owes nothing of any
 unbuilt_reads : ReadsMessages unbuilt_form

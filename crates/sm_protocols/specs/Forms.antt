@@ -1,4 +1,5 @@
 -- Each protocol as a form of messages. All that is said of a gateway is said over two of them, so a protocol more is a line more here.
+use Rattle.std.specs.Prelude.{Bool, true, false}
 use Rattle.sm_http.specs.declared.message.Protocol.{Protocol}
 use Rattle.sm_http.specs.declared.message.Protocol.TheVariants.{AwsJson10, AwsJson11, RestJson1, RpcV2Cbor}
 use Rattle.sm_messages.specs.MessageForm.{MessageForm}
@@ -15,3 +16,10 @@ form_of AwsJson10 = aws_form V10
 form_of AwsJson11 = aws_form V11
 form_of RestJson1 = unbuilt_form
 form_of RpcV2Cbor = rpc_form
+
+-- the protocol's messages are read and written: it serves each servable service
+abbrev pub is_built : Protocol → Bool
+is_built AwsJson10 = true
+is_built AwsJson11 = true
+is_built RestJson1 = false
+is_built RpcV2Cbor = true

@@ -1,0 +1,5 @@
+mod EachForm
+mod HeadsBegun
+pub mod ProtocolsBuilt
+mod ProtocolsTaken
+mod SidesTold
