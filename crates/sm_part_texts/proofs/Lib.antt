@@ -1,0 +1,3 @@
+mod JoinedEntries
+mod OtherTexts
+pub mod TextsHad

@@ -1,0 +1,4 @@
+pub mod TextsJoined
+pub mod EntriesJoined
+pub mod KeysGrouped
+pub mod GroupsJoined

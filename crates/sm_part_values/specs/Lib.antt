@@ -1,0 +1,4 @@
+pub mod PartTexts
+pub mod Joins
+pub mod FormView
+pub mod steps
