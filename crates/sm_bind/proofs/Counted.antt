@@ -7,8 +7,8 @@ use Rattle.sm_shapes.specs.TableData.{BindingData, TableData, binding_at, label,
 use Rattle.sm_shapes.specs.TableData.{response_code, target_at}
 use Rattle.sm_service.specs.WireMembers.{counted_binding}
 use Rattle.sm_bind.specs.Documents.{is_tree_kind, payload_shape, shape_by}
-use Rattle.sm_bind.specs.Roles.{bound_on}
-use Rattle.sm_bind.specs.steps.Growing.{counts_on, is_bound_payload, payload_among}
+use Rattle.sm_bind.specs.Roles.{bound_on, is_bound_payload}
+use Rattle.sm_bind.specs.steps.Growing.{counts_on, payload_among}
 
 -- the binding itself where it counts
 abbrev pub kept_on : BoundSide → Option BindingData → Option BindingData

@@ -1,4 +1,4 @@
-mod Counted
+pub mod Counted
 mod KeptNames
 mod GrowingBodies
 mod SideBodies

@@ -2,4 +2,5 @@ pub mod Roles
 pub mod PartsData
 pub mod Documents
 pub mod BindingsView
+pub mod BoundView
 pub mod steps

@@ -1,9 +1,10 @@
 -- The members of an input, an output or an error as HTTP carries them (Smithy 2.0, "HTTP binding traits"): which binding counts for each,
 -- and what stands in the document.
-use Rattle.std.specs.Prelude.{◌||◌, ℕ, Bool, not, List, [], ◌∷◌, Option, is_some, map, codes}
+use Rattle.std.specs.Prelude.{◌||◌, ℕ, Bool, true, false, not, List, [], ◌∷◌, Option, None, Some, is_some, map, codes}
 use Rattle.std.specs.List.{filter, filter_map, list_any}
 use Rattle.std.specs.Str.{bytes_eq, str_to_ascii_lowercase}
-use Rattle.sm_shapes.specs.TableData.{BindingData, TableData, binding_at, members_at}
+use Rattle.sm_shapes.specs.TableData.{BindingData, TableData, binding_at, label, members_at, query, query_params, header, prefix_headers, payload}
+use Rattle.sm_shapes.specs.TableData.{response_code}
 use Rattle.sm_rules.specs.Bindings.{BoundSide}
 use Rattle.sm_service.specs.WireMembers.{counted_binding, header_of, query_of}
 
@@ -13,6 +14,17 @@ pub record Bound : Type 0 where
   pub side : BoundSide
   pub shape : ℕ
   pub literals : List (List ℕ)
+
+-- a binding is that of a payload, which counts on each side
+abbrev pub is_bound_payload : Option BindingData → Bool
+is_bound_payload None = false
+is_bound_payload (Some payload) = true
+is_bound_payload (Some label) = false
+is_bound_payload (Some (query name)) = false
+is_bound_payload (Some query_params) = false
+is_bound_payload (Some (header name)) = false
+is_bound_payload (Some (prefix_headers prefix)) = false
+is_bound_payload (Some response_code) = false
 
 -- without such keys
 abbrev pub bound_on : TableData → BoundSide → ℕ → Bound

@@ -6,9 +6,11 @@ mod bindings;
 mod documents;
 mod members;
 mod parts;
+mod place;
 mod side;
 
 pub use bindings::Bindings;
-pub use members::{has_document, is_in_document};
+pub use members::{has_document, is_in_document, is_payload_at, is_tree_at};
 pub use parts::Parts;
+pub use place::BoundPlace;
 pub use side::{PartSide, counts};

@@ -7,8 +7,8 @@ ghost use Rattle.sm_shapes.specs.TableData.{binding_at, kind_at, target_at};
 ghost use Rattle.sm_shapes.specs.TableView.{binding_data, table_data};
 ghost use Rattle.sm_bind.specs.BindingsView.{bound_side};
 ghost use Rattle.sm_bind.specs.Documents.{is_tree_kind};
-ghost use Rattle.sm_bind.specs.steps.Growing.{is_bound_payload, payload_among};
-ghost use Rattle.sm_bind.specs.Roles.{is_unbound_on};
+ghost use Rattle.sm_bind.specs.steps.Growing.{payload_among};
+ghost use Rattle.sm_bind.specs.Roles.{is_bound_payload, is_unbound_on};
 
 use crate::side::{PartSide, counts};
 use sm_shapes::kinds::ShapeKind;
@@ -72,8 +72,8 @@ pub(crate) fn payload_shape(table: &Table, members: &[u32]) -> Option<u32>
     None
 }
 
-// Whether a member is bound to the payload.
-fn is_payload_at(table: &Table, member: u32) -> bool
+/// Whether a member is bound to the payload, which counts on each side. No memory.
+pub fn is_payload_at(table: &Table, member: u32) -> bool
     ensures { result ≡ is_bound_payload (binding_at (table_data table.now) member) }
 {
     match table.members.as_slice().get(member as usize) {
@@ -102,12 +102,18 @@ fn tree_target(table: &Table, member: u32) -> Option<u32>
     ensures { result ≡ cond (is_tree_kind (kind_of (table_data table.now) (member_place member)))
         (Some (target_at (table_data table.now) member)) None }
 {
-    let target = target_of(table, member);
-    if is_tree_kind(kind_of(table, target)) {
-        Some(target)
+    if is_tree_at(table, member) {
+        Some(target_of(table, member))
     } else {
         None
     }
+}
+
+/// Whether the values of a member are trees where it is the payload: those of structures and unions. No memory.
+pub fn is_tree_at(table: &Table, member: u32) -> bool
+    ensures { result ≡ is_tree_kind (kind_of (table_data table.now) (member_place member)) }
+{
+    is_tree_kind(kind_of(table, target_of(table, member)))
 }
 
 fn target_of(table: &Table, member: u32) -> u32

@@ -11,7 +11,7 @@ use Rattle.sm_shapes.specs.declared.kinds.ShapeKind.TheVariants.{Structure}
 use Rattle.sm_excerpts.specs.Excerpts.{Extends, IsExcerpt}
 use Rattle.sm_bind.specs.BindingsView.{body_in}
 use Rattle.sm_bind.specs.Documents.{IsBodyShape, is_tree_kind}
-use Rattle.sm_bind.specs.Roles.{bound_on}
+use Rattle.sm_bind.specs.Roles.{bound_on, is_bound_payload}
 use Rattle.sm_bind.specs.declared.documents.Body.{Body}
 use Rattle.sm_bind.specs.declared.documents.Growing.{Growing}
 
@@ -41,16 +41,6 @@ counts_on an_output (Some response_code) = true
 counts_on an_error (Some response_code) = false
 
 -- the first payload among members, whatever the side: a payload counts on each
-abbrev pub is_bound_payload : Option BindingData → Bool
-is_bound_payload None = false
-is_bound_payload (Some payload) = true
-is_bound_payload (Some label) = false
-is_bound_payload (Some (query name)) = false
-is_bound_payload (Some query_params) = false
-is_bound_payload (Some (header name)) = false
-is_bound_payload (Some (prefix_headers prefix)) = false
-is_bound_payload (Some response_code) = false
-
 abbrev pub payload_among : TableData → List ℕ → Option ℕ
 payload_among t [] = None
 payload_among t (k ∷ ks) =
