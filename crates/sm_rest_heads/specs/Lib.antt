@@ -1,0 +1,4 @@
+pub mod RestRoutes
+pub mod RestParts
+pub mod BodyParts
+pub mod steps
