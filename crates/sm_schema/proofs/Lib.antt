@@ -14,6 +14,7 @@ mod Structures
 mod Unions
 mod AllPlaces
 mod NumberedPlaces
+mod TargetsValues
 mod PlacesEnd
 mod JoinedParts
 mod OkParts

@@ -6,7 +6,7 @@ use Rattle.std.proofs.lemmas.Bool.{cases_eq, or_parts, eq-eqb, ne_eqb, false_fro
 use Rattle.sm_shapes.specs.TableData.{TableData, shape_count, member_count, members_at}
 use Rattle.sm_shapes.specs.Places.{Place, root_place, member_place, shape_of, members_of_place}
 use Rattle.sm_codec.specs.Codec.{InTable}
-use Rattle.sm_schema.specs.Definitions.{has_place, number_in, same_place, with_place, with_members, member_defined, Listed}
+use Rattle.sm_schema.specs.Definitions.{HaveTargetsValues, has_place, number_in, same_place, with_place, with_members, member_defined, Listed}
 use Rattle.sm_shapes.specs.InOrder.{AreMembersOf, Shaped}
 use Rattle.sm_codec.proofs.PlacesIn.{shape_in}
 use Rattle.sm_codec.specs.PlaceView.{place_of}
@@ -76,26 +76,28 @@ all_in_at t (q ∷ ps) zero p h e = subst (InTable t) (one_place q p e) h.0
 all_in_at t (q ∷ ps) (suc i) p h e = all_in_at t ps i p h.1 e
 
 -- none have a number where there are none
-pub numbered_none : (t : TableData) (m n : ℕ) → m ≡ shape_count t → n ≡ member_count t
-    → Numbered t [] (replicate m None) (replicate n None)
-numbered_none t m n e f = record {
+pub numbered_none : (t : TableData) (m n : ℕ) (known : Bool) → m ≡ shape_count t → n ≡ member_count t
+    → (known ≡ true → HaveTargetsValues t) → Numbered t [] (replicate m None) (replicate n None) known
+numbered_none t m n known e f values = record {
   shapes_many = length-replicate m None ∙ e;
   members_many = length-replicate n None ∙ f;
   of_shapes = λ s lt. get_or-replicate m s None None (omega (arith, lt, e));
   of_members = λ k lt. get_or-replicate n k None None (omega (arith, lt, f));
   inside = tt;
+  values = values;
 }
 
 -- the number is set of the place that is put there
-pub shape_put : (t : TableData) (ps : List Place) (shapes members : List (Option ℕ)) (s : ℕ) → Numbered t ps shapes members
-    → has_place (root_place s) ps ≡ false → s < shape_count t
-    → Numbered t (ps ++ root_place s ∷ []) (set shapes s (Some (length ps))) members
-shape_put t ps shapes members s h new within = record {
+pub shape_put : (t : TableData) (ps : List Place) (shapes members : List (Option ℕ)) (known : Bool) (s : ℕ)
+    → Numbered t ps shapes members known → has_place (root_place s) ps ≡ false → s < shape_count t
+    → Numbered t (ps ++ root_place s ∷ []) (set shapes s (Some (length ps))) members known
+shape_put t ps shapes members known s h new within = record {
   shapes_many = length-set shapes s (Some (length ps)) ∙ h.shapes_many;
   members_many = h.members_many;
   of_shapes = λ r lt. by r lt (cases_eq r s);
   of_members = λ k lt. h.of_members k lt ∙ sym (numbered_last ps (root_place s) (member_place k) new);
   inside = all_in_last t ps (root_place s) h.inside within;
+  values = h.values;
 }
   where
     by : (r : ℕ) → r < shape_count t → (r ≡ s) ⊎ (r ≡ s → ⊥)
@@ -110,15 +112,16 @@ shape_put t ps shapes members s h new within = record {
         ∙ sym (numbered_last ps (root_place s) (root_place r) new
         ∙ ap (λ b. cond b (Some (length ps)) (numbered ps (root_place r))) (ne_eqb s r (λ e. other (sym e))))
 
-pub member_put : (t : TableData) (ps : List Place) (shapes members : List (Option ℕ)) (k : ℕ) → Numbered t ps shapes members
-    → has_place (member_place k) ps ≡ false → k < member_count t
-    → Numbered t (ps ++ member_place k ∷ []) shapes (set members k (Some (length ps)))
-member_put t ps shapes members k h new within = record {
+pub member_put : (t : TableData) (ps : List Place) (shapes members : List (Option ℕ)) (known : Bool) (k : ℕ)
+    → Numbered t ps shapes members known → has_place (member_place k) ps ≡ false → k < member_count t
+    → Numbered t (ps ++ member_place k ∷ []) shapes (set members k (Some (length ps))) known
+member_put t ps shapes members known k h new within = record {
   shapes_many = h.shapes_many;
   members_many = length-set members k (Some (length ps)) ∙ h.members_many;
   of_shapes = λ s lt. h.of_shapes s lt ∙ sym (numbered_last ps (member_place k) (root_place s) new);
   of_members = λ j lt. by j lt (cases_eq j k);
   inside = all_in_last t ps (member_place k) h.inside within;
+  values = h.values;
 }
   where
     by : (j : ℕ) → j < member_count t → (j ≡ k) ⊎ (j ≡ k → ⊥)
@@ -149,32 +152,32 @@ number_gone ps p h = by (has_place p ps) refl h
     by false e g = e
 
 -- the same of places of the code
-pub root_added : (t : TableData) (before after : List ValuePlace) (place : ValuePlace) (shapes members : List (Option ℕ)) (s n : ℕ)
-    → Numbered t (map place_of before) shapes members → has_place (place_of place) (map place_of before) ≡ false
+pub root_added : (t : TableData) (before after : List ValuePlace) (place : ValuePlace) (shapes members : List (Option ℕ)) (known : Bool)
+    (s n : ℕ) → Numbered t (map place_of before) shapes members known → has_place (place_of place) (map place_of before) ≡ false
     → InTable t (place_of place) → place ≡ Root s → after ≡ before ++ place ∷ [] → n ≡ length before
-    → Numbered t (map place_of after) (set shapes s (Some n)) members
-root_added t before after place shapes members s n h new within is put many =
+    → Numbered t (map place_of after) (set shapes s (Some n)) members known
+root_added t before after place shapes members known s n h new within is put many =
     let ps = map place_of before in
     let moved : map place_of after ≡ ps ++ root_place s ∷ [] =
     ap (map place_of) put ∙ map-append place_of before (place ∷ []) ∙ ap (λ x. ps ++ place_of x ∷ []) is in
     let count : n ≡ length ps = many ∙ sym (length-map before place_of) in
-    subst (λ x. Numbered t x (set shapes s (Some n)) members) (sym moved)
-    (subst (λ x. Numbered t (ps ++ root_place s ∷ []) (set shapes s (Some x)) members) (sym count)
-    (shape_put t ps shapes members s h (subst (λ x. has_place (place_of x) ps ≡ false) is new)
+    subst (λ x. Numbered t x (set shapes s (Some n)) members known) (sym moved)
+    (subst (λ x. Numbered t (ps ++ root_place s ∷ []) (set shapes s (Some x)) members known) (sym count)
+    (shape_put t ps shapes members known s h (subst (λ x. has_place (place_of x) ps ≡ false) is new)
     (subst (λ x. InTable t (place_of x)) is within)))
 
-pub member_added : (t : TableData) (before after : List ValuePlace) (place : ValuePlace) (shapes members : List (Option ℕ)) (k n : ℕ)
-    → Numbered t (map place_of before) shapes members → has_place (place_of place) (map place_of before) ≡ false
+pub member_added : (t : TableData) (before after : List ValuePlace) (place : ValuePlace) (shapes members : List (Option ℕ)) (known : Bool)
+    (k n : ℕ) → Numbered t (map place_of before) shapes members known → has_place (place_of place) (map place_of before) ≡ false
     → InTable t (place_of place) → place ≡ Member k → after ≡ before ++ place ∷ [] → n ≡ length before
-    → Numbered t (map place_of after) shapes (set members k (Some n))
-member_added t before after place shapes members k n h new within is put many =
+    → Numbered t (map place_of after) shapes (set members k (Some n)) known
+member_added t before after place shapes members known k n h new within is put many =
     let ps = map place_of before in
     let moved : map place_of after ≡ ps ++ member_place k ∷ [] =
     ap (map place_of) put ∙ map-append place_of before (place ∷ []) ∙ ap (λ x. ps ++ place_of x ∷ []) is in
     let count : n ≡ length ps = many ∙ sym (length-map before place_of) in
-    subst (λ x. Numbered t x shapes (set members k (Some n))) (sym moved)
-    (subst (λ x. Numbered t (ps ++ member_place k ∷ []) shapes (set members k (Some x))) (sym count)
-    (member_put t ps shapes members k h (subst (λ x. has_place (place_of x) ps ≡ false) is new)
+    subst (λ x. Numbered t x shapes (set members k (Some n)) known) (sym moved)
+    (subst (λ x. Numbered t (ps ++ member_place k ∷ []) shapes (set members k (Some x)) known) (sym count)
+    (member_put t ps shapes members known k h (subst (λ x. has_place (place_of x) ps ≡ false) is new)
     (subst (λ x. InTable t (place_of x)) is within)))
 
 pub all_members_of : (t : TableData) (s : ℕ) (ks : List ℕ) → AreMembersOf t s ks → AllMembers t ks

@@ -6,7 +6,8 @@ use Rattle.std.specs.Fmt.{decimal}
 use Rattle.std.specs.Ordering.{int_eq}
 use Rattle.std.specs.Str.{bytes_eq}
 use Rattle.sm_tree.specs.Node.{Node, text, object, no_members, member}
-use Rattle.sm_shapes.specs.TableData.{TableData, ConstraintData, kind_at, target_at, constraints_at, shape_constraints_at}
+use Rattle.sm_shapes.specs.TableData.{TableData, ConstraintData, MemberData, ShapeData, kind_at, target_at, constraints_at}
+use Rattle.sm_shapes.specs.TableData.{shape_constraints_at, shape_constraints_in}
 use Rattle.sm_shapes.specs.Places.{Place, root_place, member_place, members_of_place}
 use Rattle.sm_shapes.specs.declared.kinds.ShapeKind.{ShapeKind}
 use Rattle.sm_shapes.specs.declared.kinds.ShapeKind.TheVariants.{Enum, IntEnum, Structure, Union}
@@ -26,6 +27,18 @@ abbrev pub same_constraints : ConstraintData → ConstraintData → Bool
 same_constraints c d =
     same_bound c.min d.min && (same_bound c.max d.max && (same_pattern c.pattern d.pattern
     && (pointwise bytes_eq c.texts d.texts && pointwise int_eq c.numbers d.numbers)))
+
+-- at each member stand the values of its target's enum, as in every table that is compiled
+pub record HasTargetsValues (shapes : List ShapeData) (m : MemberData) : Type 0 where
+  pub texts : m.constraints.texts ≡ (shape_constraints_in (slice_get shapes m.target)).texts
+  pub numbers : m.constraints.numbers ≡ (shape_constraints_in (slice_get shapes m.target)).numbers
+
+abbrev pub EachHasValues : List ShapeData → List MemberData → Type 0
+EachHasValues shapes [] = Unit {0}
+EachHasValues shapes (m ∷ ms) = HasTargetsValues shapes m × EachHasValues shapes ms
+
+abbrev pub HaveTargetsValues : TableData → Type 0
+HaveTargetsValues t = EachHasValues t.shapes t.members
 
 -- A member whose target is a structure or a union, or an enum whose constraints are its own, has the definition of that shape. Any other
 -- member has its own.

@@ -187,7 +187,7 @@ fn reference_words(
     ensures { IfOk result (λ words. (json_names : Bool) → object (member (codes "$ref") (nodes.text (string_bytes words)) no_members)
         ≡ defs.reference (listing_of (table_data table.now) json_names all.now) (place_of place)) }
 {
-    match all.number(table, defined_place(table, place)) {
+    match all.number(table, defined_place(table, place, all.values_known)) {
         Some(number) => {
             let words = format!(in alloc; "#/$defs/d{number}")?;
             Ok(words)

@@ -11,7 +11,7 @@ ghost use Rattle.sm_shapes.specs.TableView.{table_data};
 ghost use Rattle.sm_codec.specs.Codec.{InTable};
 ghost use Rattle.sm_codec.specs.PlaceView.{place_of};
 ghost use Rattle.sm_codec.specs.Readings.{faults};
-ghost use Rattle.sm_schema.specs.Definitions.{reference_text};
+ghost use Rattle.sm_schema.specs.Definitions.{HaveTargetsValues, reference_text};
 ghost use Rattle.sm_schema.specs.Described as the;
 ghost use Rattle.sm_schema.specs.SchemaLaws.{AllTold, HasFew, HasNoNumber, json_codec};
 ghost use Rattle.sm_schema.specs.Valid.{Valid};
@@ -99,10 +99,10 @@ fn first_reference() -> &'static str
 }
 
 /// The schema of the shape with this number (JSON Schema 2020-12), where members stand under their names or under their JSON names. It is a
-/// tree that JSON can spell. The
-/// store isn't asked: its type's test is the one by which patterns find texts. `NoMemory` where the allocator refuses the memory for it.
-/// A tree that has no fault for the shape is accepted by the schema; and one that the schema accepts has no fault, where the schema can say
-/// all that the shape asks for.
+/// tree that JSON can spell. The store isn't asked: its type's test is the one by which patterns find texts. `NoMemory` where the allocator
+/// refuses the memory for it. A tree that has no fault for the shape is accepted by the schema; and one that the schema accepts has no
+/// fault, where the schema can say all that the shape asks for. Linear in the table, but that the values of each member whose target is an
+/// enum are compared with the enum's: of a table that was compiled, take `schema_of_compiled`.
 pub fn schema<P: Patterns>(
     alloc: Global,
     table: &Table,
@@ -121,7 +121,32 @@ pub fn schema<P: Patterns>(
 {
     spelled_is_valid();
     valid_is_spelled();
-    let made = schema_of(alloc, table, shape, json_names)?;
+    let made = schema_of(alloc, table, shape, json_names, false)?;
+    Ok(made.tree)
+}
+
+/// The schema of the shape with this number, as `schema` gives it, of a table in which members have the values of their targets' enums, as
+/// they have in each that is compiled. Linear in the table and in what is written.
+pub fn schema_of_compiled<P: Patterns>(
+    alloc: Global,
+    table: &Table,
+    shape: u32,
+    json_names: bool,
+    _patterns: &P,
+) -> Result<Tree, NoMemory>
+    requires shaped { Shaped (table_data table.now) }
+    requires shape { shape < shape_count (table_data table.now) }
+    requires values { HaveTargetsValues (table_data table.now) }
+    ensures schema { IfOk result (λ tree. the.IsSchema (table_data table.now) json_names shape (node_of tree)) }
+    ensures json { IfOk result (λ tree. IsJson (node_of tree)) }
+    ensures spelled { IfOk result (λ tree. (n : Node) → DefaultsPass (table_data table.now) P.test → IsNode n
+        → faults (json_codec (table_data table.now) json_names P.test) n (root_place shape) ≡ [] → Valid P.test (node_of tree) n) }
+    ensures valid { IfOk result (λ tree. (n : Node) → AllTold (table_data table.now) (root_place shape) → IsNode n → HasNoNumber n
+        → Valid P.test (node_of tree) n → faults (json_codec (table_data table.now) json_names P.test) n (root_place shape) ≡ []) }
+{
+    spelled_is_valid();
+    valid_is_spelled();
+    let made = schema_of(alloc, table, shape, json_names, true)?;
     Ok(made.tree)
 }
 
@@ -130,13 +155,15 @@ fn schema_of(
     table: &Table,
     shape: u32,
     json_names: bool,
+    values_known: bool,
 ) -> Result<JsonTree, NoMemory>
     requires shaped { Shaped (table_data table.now) }
     requires shape { shape < shape_count (table_data table.now) }
+    requires known { values_known ≡ true → HaveTargetsValues (table_data table.now) }
     ensures { IfOk result (λ tree. (is : the.IsSchema (table_data table.now) json_names shape (node_of tree.tree))
         × HasFew (table_data table.now) json_names shape (node_of tree.tree) is) }
 {
-    let all = defined_places(alloc, table, shape)?;
+    let all = defined_places(alloc, table, shape, values_known)?;
     let definitions = definitions(alloc, table, &all, json_names)?;
     let mut pairs = no_pairs(alloc);
     put_text(

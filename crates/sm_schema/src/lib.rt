@@ -10,4 +10,4 @@ mod listing;
 mod nodes;
 mod trees;
 
-pub use describing::schema;
+pub use describing::{schema, schema_of_compiled};

@@ -1,5 +1,5 @@
 // The places that have a definition, in their order, and the number of each. Time as the table's members.
-ghost use Rattle.std.specs.Prelude.{◌≡◌, ◌<◌, ◌∷◌, [], None, false, IfOk, OnOk, replicate};
+ghost use Rattle.std.specs.Prelude.{◌≡◌, ◌<◌, ◌&&◌, ◌∷◌, [], None, true, false, IfOk, OnOk, replicate};
 ghost use Rattle.std.specs.Cmp.Lexicographic.{pointwise};
 ghost use Rattle.std.specs.Ordering.{int_eq};
 ghost use Rattle.std.specs.Str.{bytes_eq};
@@ -29,6 +29,8 @@ pub(crate) struct DefinedPlaces {
     pub(crate) shapes: Vec<Option<usize>>,
     /// How many stand before the place of each member that has a definition of its own.
     pub(crate) members: Vec<Option<usize>>,
+    /// Whether it is known that members have the values of their targets' enums: then none are compared.
+    pub(crate) values_known: bool,
 }
 
 // No numbers yet, of so many.
@@ -44,7 +46,8 @@ fn no_numbers(alloc: Global, count: usize) -> Result<Vec<Option<usize>>, NoMemor
 
 impl DefinedPlaces {
     // No places yet.
-    fn new(alloc: Global, table: &Table) -> Result<Self, NoMemory>
+    fn new(alloc: Global, table: &Table, values_known: bool) -> Result<Self, NoMemory>
+        requires { values_known ≡ true → the.HaveTargetsValues (table_data table.now) }
         ensures numbered { IfOk result (λ all. AreNumbered (table_data table.now) all) }
         ensures places { IfOk result (λ all. places_in all ≡ []) }
     {
@@ -54,6 +57,7 @@ impl DefinedPlaces {
             places: Vec::new(alloc),
             shapes,
             members,
+            values_known,
         })
     }
 
@@ -113,7 +117,7 @@ impl DefinedPlaces {
         ensures places { OnOk result (places_in self.new ≡ the.with_members (table_data table.now) (places_in self.old) members.now) }
     {
         for member in members {
-            self.put(table, member_defined(table, *member))?;
+            self.put(table, member_defined(table, *member, self.values_known))?;
         }
         Ok(())
     }
@@ -155,37 +159,55 @@ fn same_numbers(one: &[i64], other: &[i64]) -> bool
     one == other
 }
 
-fn same_constraints(one: &Constraints, other: &Constraints) -> bool
+// Whether the values of an enum are the same. Where it is known that they are, none is compared.
+fn same_values(one: &Constraints, other: &Constraints, known: bool) -> bool
+    requires { known ≡ true → (one.now.texts ≡ other.now.texts) × (one.now.numbers ≡ other.now.numbers) }
+    ensures { result ≡ (pointwise bytes_eq one.now.texts other.now.texts && pointwise int_eq one.now.numbers other.now.numbers) }
+{
+    if known {
+        return true;
+    }
+    same_texts(one.texts.as_slice(), other.texts.as_slice())
+        && same_numbers(one.numbers.as_slice(), other.numbers.as_slice())
+}
+
+fn same_constraints(one: &Constraints, other: &Constraints, known: bool) -> bool
+    requires { known ≡ true → (one.now.texts ≡ other.now.texts) × (one.now.numbers ≡ other.now.numbers) }
     ensures { result ≡ the.same_constraints (constraint_data one.now) (constraint_data other.now) }
 {
     same_bound(one.min, other.min)
         && same_bound(one.max, other.max)
         && same_pattern(one.pattern, other.pattern)
-        && same_texts(one.texts.as_slice(), other.texts.as_slice())
-        && same_numbers(one.numbers.as_slice(), other.numbers.as_slice())
+        && same_values(one, other, known)
 }
 
 // Whether a member has its target's constraints.
-fn has_targets(table: &Table, member: u32) -> bool
+fn has_targets(table: &Table, member: u32, known: bool) -> bool
     requires shaped { Shaped (table_data table.now) }
     requires member { member < member_count (table_data table.now) }
+    requires known { known ≡ true → the.HaveTargetsValues (table_data table.now) }
     ensures { result ≡ the.has_targets (table_data table.now) member }
 {
     let row = table.member(member);
-    same_constraints(&row.constraints, &table.shape(row.target).constraints)
+    same_constraints(
+        &row.constraints,
+        &table.shape(row.target).constraints,
+        known,
+    )
 }
 
 // Whether a member whose target is of this kind has the definition of that shape.
-fn has_shapes(table: &Table, member: u32, kind: ShapeKind) -> bool
+fn has_shapes(table: &Table, member: u32, kind: ShapeKind, known: bool) -> bool
     requires shaped { Shaped (table_data table.now) }
     requires member { member < member_count (table_data table.now) }
+    requires known { known ≡ true → the.HaveTargetsValues (table_data table.now) }
     ensures { result ≡ the.has_shapes (table_data table.now) member kind }
 {
     match kind {
         ShapeKind::Structure => true,
         ShapeKind::Union => true,
-        ShapeKind::Enum => has_targets(table, member),
-        ShapeKind::IntEnum => has_targets(table, member),
+        ShapeKind::Enum => has_targets(table, member, known),
+        ShapeKind::IntEnum => has_targets(table, member, known),
         ShapeKind::Blob => false,
         ShapeKind::Boolean => false,
         ShapeKind::Text => false,
@@ -201,14 +223,15 @@ fn has_shapes(table: &Table, member: u32, kind: ShapeKind) -> bool
 }
 
 // The place whose definition a member has.
-fn member_defined(table: &Table, member: u32) -> ValuePlace
+fn member_defined(table: &Table, member: u32, known: bool) -> ValuePlace
     requires shaped { Shaped (table_data table.now) }
     requires member { member < member_count (table_data table.now) }
+    requires known { known ≡ true → the.HaveTargetsValues (table_data table.now) }
     ensures place { place_of result ≡ the.member_defined (table_data table.now) member }
     ensures inside { InTable (table_data table.now) (place_of result) }
 {
     let target = table.target(member);
-    if has_shapes(table, member, table.kind(target)) {
+    if has_shapes(table, member, table.kind(target), known) {
         ValuePlace::Root(target)
     } else {
         ValuePlace::Member(member)
@@ -216,15 +239,16 @@ fn member_defined(table: &Table, member: u32) -> ValuePlace
 }
 
 /// The place whose definition a place has. No memory.
-pub(crate) fn defined_place(table: &Table, place: ValuePlace) -> ValuePlace
+pub(crate) fn defined_place(table: &Table, place: ValuePlace, known: bool) -> ValuePlace
     requires shaped { Shaped (table_data table.now) }
     requires inside { InTable (table_data table.now) (place_of place) }
+    requires known { known ≡ true → the.HaveTargetsValues (table_data table.now) }
     ensures place { place_of result ≡ the.defined_place (table_data table.now) (place_of place) }
     ensures inside { InTable (table_data table.now) (place_of result) }
 {
     match place {
         ValuePlace::Root(shape) => ValuePlace::Root(shape),
-        ValuePlace::Member(member) => member_defined(table, member),
+        ValuePlace::Member(member) => member_defined(table, member, known),
     }
 }
 
@@ -233,13 +257,15 @@ pub(crate) fn defined_places(
     alloc: Global,
     table: &Table,
     shape: u32,
+    values_known: bool,
 ) -> Result<DefinedPlaces, NoMemory>
     requires shaped { Shaped (table_data table.now) }
     requires shape { shape < shape_count (table_data table.now) }
+    requires known { values_known ≡ true → the.HaveTargetsValues (table_data table.now) }
     ensures numbered { IfOk result (λ all. AreNumbered (table_data table.now) all) }
     ensures listed { IfOk result (λ all. AreListed (table_data table.now) shape (places_in all)) }
 {
-    let mut all = DefinedPlaces::new(alloc, table)?;
+    let mut all = DefinedPlaces::new(alloc, table, values_known)?;
     all.put(table, ValuePlace::Root(shape))?;
     for turn in 0..usize::MAX {
         if all.places.len() <= turn {

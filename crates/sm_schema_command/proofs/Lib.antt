@@ -1,3 +1,4 @@
 pub mod NamesWords
 mod Schemas
+mod CompiledValues
 mod OneSchema

@@ -9,6 +9,7 @@ ghost use Rattle.sm_compile.specs.Answers.{seen_store};
 ghost use Rattle.sm_asked.specs.CommandAsked.{OnlyAdds};
 ghost use Rattle.sm_asked.specs.Comes.{CommandComesTo};
 ghost use Rattle.sm_asked.specs.Outside.{inputs_seen};
+ghost use Rattle.sm_schema.specs.Definitions.{HaveTargetsValues};
 ghost use Rattle.sm_schema_command.specs.Schema.{schema_asked};
 ghost use Rattle.sm_schema_command.specs.steps.SchemaSteps.{IsSchemaText};
 
@@ -17,7 +18,7 @@ use sm_asked::CommandStop;
 use sm_asked_shape::load_shape;
 use sm_io::Files;
 use sm_json::write_tree;
-use sm_schema::schema as schema_of;
+use sm_schema::schema_of_compiled;
 use sm_shapes::Patterns;
 use sm_shapes::tables::Table;
 use sm_tree::NoMemory;
@@ -33,9 +34,10 @@ fn schema_text<P: Patterns>(
 ) -> Result<Vec<u8>, NoMemory>
     requires shaped { Shaped (table_data table.now) }
     requires shape { shape < shape_count (table_data table.now) }
+    requires values { HaveTargetsValues (table_data table.now) }
     ensures { IfOk result (λ text. IsSchemaText (table_data table.now) json_names shape text.items) }
 {
-    let tree = schema_of(alloc, table, shape, json_names, patterns)?;
+    let tree = schema_of_compiled(alloc, table, shape, json_names, patterns)?;
     let mut text = Vec::new(alloc);
     match write_tree(alloc, &tree, &mut text) {
         Ok(()) => {

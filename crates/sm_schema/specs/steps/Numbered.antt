@@ -5,7 +5,7 @@ use Rattle.sm_shapes.specs.TableData.{TableData, shape_count, member_count}
 use Rattle.sm_shapes.specs.Places.{Place, root_place, member_place}
 use Rattle.sm_codec.specs.Codec.{InTable}
 use Rattle.sm_codec.specs.PlaceView.{place_of}
-use Rattle.sm_schema.specs.Definitions.{has_place, number_in, Listed, Listing}
+use Rattle.sm_schema.specs.Definitions.{HaveTargetsValues, has_place, number_in, Listed, Listing}
 use Rattle.sm_schema.specs.Described.{choice_schema, member_schema}
 use Rattle.sm_schema.specs.declared.listing.DefinedPlaces.{DefinedPlaces}
 
@@ -21,19 +21,20 @@ abbrev pub AllMembers : TableData → List ℕ → Type 0
 AllMembers t [] = Unit {0}
 AllMembers t (k ∷ ks) = (k < member_count t) × AllMembers t ks
 
--- two lists have the numbers of the places of shapes and of members
-pub record Numbered (t : TableData) (ps : List Place) (shapes members : List (Option ℕ)) : Type 0 where
+-- two lists have the numbers of the places of shapes and of members; and where it is known that members have their targets' values, they do
+pub record Numbered (t : TableData) (ps : List Place) (shapes members : List (Option ℕ)) (known : Bool) : Type 0 where
   pub shapes_many : length shapes ≡ shape_count t
   pub members_many : length members ≡ member_count t
   pub of_shapes : (s : ℕ) → s < shape_count t → slice_index_or shapes s None ≡ numbered ps (root_place s)
   pub of_members : (k : ℕ) → k < member_count t → slice_index_or members k None ≡ numbered ps (member_place k)
   pub inside : AllIn t ps
+  pub values : known ≡ true → HaveTargetsValues t
 
 abbrev pub places_in : DefinedPlaces → List Place
 places_in all = map place_of all.places.items
 
 abbrev pub AreNumbered : TableData → DefinedPlaces → Type 0
-AreNumbered t all = Numbered t (places_in all) all.shapes.items all.members.items
+AreNumbered t all = Numbered t (places_in all) all.shapes.items all.members.items all.values_known
 
 -- the places are those of a shape, in their order
 abbrev pub AreListed : TableData → ℕ → List Place → Type 0

@@ -1,5 +1,8 @@
 use Rattle.sm_io.specs.Seen.{files_seen}
 use Rattle.sm_compile.specs.Answers.{seen_store}
+use Rattle.std.proofs.Common.{None}
+use Rattle.sm_asked.specs.Stages.{told}
+use Rattle.sm_schema_command.proofs.CompiledValues.{loaded_values}
 use Rattle.sm_schema_command.proofs.Schemas.{schema_printed, schema_short, schema_stops}
 use Rattle.sm_schema_command.proofs.schema.schema.Goals as goal
 
@@ -42,3 +45,11 @@ returns-clause-comes g c = λ input.
     (seen_store (g.P.Patterns.added c.load_shape.new.patterns) (g.P.Patterns.refused c.load_shape.new.patterns)
     (g.P.Patterns.refusals c.load_shape.new.patterns))
     c.args.words.model.now c.args.words.shape.now c.args.words.json_names input c.in-Err.stop c.load_shape.ensures.held c.in-Err.ensures.loads
+
+pub schema_text-requires-clause-values : goal.schema_text-requires-clause-values
+schema_text-requires-clause-values g c =
+    loaded_values
+    (told (g.F.Files.held c.args.files.now) None g.P.Patterns.test
+    (seen_store (g.P.Patterns.added c.args.patterns.now) (g.P.Patterns.refused c.args.patterns.now)
+    (g.P.Patterns.refusals c.args.patterns.now)) None)
+    c.args.words.model.now c.args.words.shape.now c.in-Ok.one (c.in-Ok.ensures.loads.1 None)
