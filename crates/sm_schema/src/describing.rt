@@ -1,5 +1,5 @@
 // The schema of a shape: the definitions of all places to which it leads, and a reference to the first.
-ghost use Rattle.std.specs.Prelude.{◌≡◌, ◌<◌, [], IfOk, OnOk};
+ghost use Rattle.std.specs.Prelude.{◌≡◌, ◌<◌, [], true, IfOk, OnOk};
 ghost use Rattle.sm_tree.specs.Json.{IsJson};
 ghost use Rattle.sm_tree.specs.Node.{Node, no_members};
 ghost use Rattle.sm_tree.specs.Same.{IsNode};

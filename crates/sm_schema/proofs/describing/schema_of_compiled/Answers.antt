@@ -18,3 +18,6 @@ pub returns-clause-valid : goal.returns-clause-valid
 returns-clause-valid g c = λ n told document none valid.
     c.valid_is_spelled.ensures (table_data c.args.table.now) c.args.json_names g.P.Patterns.test c.args.shape (node_of c.in_ok-made.made.tree) n
     c.requires.shaped c.requires.shape c.in_ok-made.ensures.0 c.in_ok-made.ensures.1 told document none valid
+
+pub schema_of-requires-clause-known : goal.schema_of-requires-clause-known
+schema_of-requires-clause-known g c = λ known. c.requires.values
