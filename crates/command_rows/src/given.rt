@@ -10,6 +10,8 @@ pub enum AskedOfRun {
     Cut(u64),
     /// This read of its files fails, counted from 1.
     FailRead(u64),
+    /// This write of its files fails, counted from 1.
+    FailWrite(u64),
     /// This read of its input fails, counted from 1.
     FailTake(u64),
     /// This write of its output fails, counted from 1.
@@ -21,6 +23,7 @@ pub enum AskedOfRun {
 pub struct Given {
     piece: u64,
     read: u64,
+    write: u64,
     take: u64,
     put: u64,
 }
@@ -31,6 +34,7 @@ impl Given {
         Given {
             piece: 0,
             read: 0,
+            write: 0,
             take: 0,
             put: 0,
         }
@@ -41,6 +45,7 @@ impl Given {
         match asked {
             AskedOfRun::Cut(length) => self.piece = length,
             AskedOfRun::FailRead(call) => self.read = call,
+            AskedOfRun::FailWrite(call) => self.write = call,
             AskedOfRun::FailTake(call) => self.take = call,
             AskedOfRun::FailPut(call) => self.put = call,
         }
@@ -49,6 +54,11 @@ impl Given {
     /// The read of its files that fails; 0 where none does.
     pub fn failing_read(self) -> u64 {
         self.read
+    }
+
+    /// The write of its files that fails; 0 where none does.
+    pub fn failing_write(self) -> u64 {
+        self.write
     }
 
     /// An input of these bytes.
@@ -72,6 +82,7 @@ pub fn asked_by(words: &str, number: &str) -> Option<AskedOfRun> {
     match words {
         "cut" => Some(AskedOfRun::Cut(number)),
         "fail read" => Some(AskedOfRun::FailRead(number)),
+        "fail write" => Some(AskedOfRun::FailWrite(number)),
         "fail take" => Some(AskedOfRun::FailTake(number)),
         "fail put" => Some(AskedOfRun::FailPut(number)),
         _ => None,

@@ -1,4 +1,4 @@
-// Files in memory of which a read of the next run may fail, or come behind a change.
+// Files in memory of which a read or a write of the next run may fail, or a read come behind a change.
 ghost use Rattle.std.specs.Prelude.{◌≡◌, None, ⊤};
 
 use sm_io::{FileRefusal, Files, MemFiles};
@@ -29,6 +29,8 @@ pub struct KeptFiles {
     change: Option<Change>,
     failing: u64,
     reads: u64,
+    failing_write: u64,
+    writes: u64,
     read_faults: u64,
     write_faults: u64,
 }
@@ -41,6 +43,8 @@ impl KeptFiles {
             change: None,
             failing: 0,
             reads: 0,
+            failing_write: 0,
+            writes: 0,
             read_faults: 0,
             write_faults: 0,
         }
@@ -51,15 +55,18 @@ impl KeptFiles {
         self.change = Some(change);
     }
 
-    /// A run begins, of which this read fails, counted from 1; 0 fails none.
-    pub fn begin(&mut self, failing: u64) {
-        self.failing = failing;
+    /// A run begins, of which this read and this write fail, counted from 1; 0 fails none.
+    pub fn begin(&mut self, read: u64, write: u64) {
+        self.failing = read;
         self.reads = 0;
+        self.failing_write = write;
+        self.writes = 0;
     }
 
-    /// It has ended: what was asked of its reads counts no more.
+    /// It has ended: what was asked of its reads and writes counts no more.
     pub fn end(&mut self) {
         self.failing = 0;
+        self.failing_write = 0;
         self.change = None;
     }
 
@@ -113,6 +120,11 @@ impl Files for KeptFiles {
     }
 
     fn write(&mut self, name: &str, bytes: &[u8]) -> Result<(), FileRefusal> {
+        self.writes = self.writes.saturating_add(1);
+        if self.writes == self.failing_write {
+            self.write_faults = self.write_faults.saturating_add(1);
+            return Err(FileRefusal::Failed);
+        }
         match self.files.write(name, bytes) {
             Ok(()) => Ok(()),
             Err(_) => {

@@ -7,6 +7,8 @@ use crate::large::Size;
 pub enum Input<'a> {
     /// `< TEXT`: the rest of the row, as it stands.
     Plain(&'a str),
+    /// `<| TEXT`: the rest of the row, where `|` is CR LF.
+    Heads(&'a str),
     /// `<x PAIRS`: pairs of hexadecimal digits, as `bytes_shown` reads them.
     Pairs(&'a str),
 }
@@ -16,10 +18,16 @@ pub enum Input<'a> {
 pub enum CommandRow<'a> {
     /// `pad N`: what the next row gives, a file's text or an input, is padded with blanks up to so many bytes.
     Pad(usize),
-    /// `cut N`, `fail read N`, `fail take N`, `fail put N`: something is asked of the next run.
+    /// `cut N`, `fail read N`, `fail write N`, `fail take N`, `fail put N`: something is asked of the next run.
     Next(AskedOfRun),
     /// `file NAME TEXT`: from now on the name stands for a file of this text.
     File(&'a str, &'a str),
+    /// `heads NAME TEXT`: the same, where `|` is CR LF. The text may be empty.
+    Heads(&'a str, &'a str),
+    /// `pairs NAME PAIRS`: the same of the bytes that pairs of hexadecimal digits show.
+    Pairs(&'a str, &'a str),
+    /// `shows NAME`: what the name stands for comes out.
+    Shows(&'a str),
     /// `line NAME TEXT`: this text and a line feed go behind what the name stands for.
     Line(&'a str, &'a str),
     /// `model NAME SHAPES MEMBERS`, `mixed NAME SHAPES MEMBERS`: from now on the name stands for a file of a model of this size.
@@ -40,6 +48,9 @@ impl<'a> CommandRow<'a> {
         }
         match line.split_once(' ') {
             Some(("file", rest)) => CommandRow::file(rest),
+            Some(("heads", rest)) => CommandRow::heads(rest),
+            Some(("pairs", rest)) => CommandRow::pairs(rest),
+            Some(("shows", name)) => CommandRow::Shows(name),
             Some(("line", rest)) => CommandRow::line(rest),
             Some(("model", rest)) => CommandRow::model(rest, false),
             Some(("mixed", rest)) => CommandRow::model(rest, true),
@@ -65,10 +76,14 @@ impl<'a> CommandRow<'a> {
 
     // A row `run`, without this word.
     fn run(rest: &'a str) -> Self {
-        let (words, input) = match (rest.split_once(" < "), rest.split_once(" <x ")) {
-            (Some((words, text)), _) => (words, Input::Plain(text)),
-            (None, Some((words, pairs))) => (words, Input::Pairs(pairs)),
-            (None, None) => return CommandRow::Unknown,
+        let (words, input) = if let Some((words, text)) = rest.split_once(" <| ") {
+            (words, Input::Heads(text))
+        } else if let Some((words, text)) = rest.split_once(" < ") {
+            (words, Input::Plain(text))
+        } else if let Some((words, pairs)) = rest.split_once(" <x ") {
+            (words, Input::Pairs(pairs))
+        } else {
+            return CommandRow::Unknown;
         };
         CommandRow::Run(words.strip_prefix(' '), input)
     }
@@ -77,6 +92,22 @@ impl<'a> CommandRow<'a> {
     fn file(rest: &'a str) -> Self {
         match rest.split_once(' ') {
             Some((name, text)) => CommandRow::File(name, text),
+            None => CommandRow::Unknown,
+        }
+    }
+
+    // A row `heads`, without this word. The text may be empty.
+    fn heads(rest: &'a str) -> Self {
+        match rest.split_once(' ') {
+            Some((name, text)) => CommandRow::Heads(name, text),
+            None => CommandRow::Heads(rest, ""),
+        }
+    }
+
+    // A row `pairs`, without this word.
+    fn pairs(rest: &'a str) -> Self {
+        match rest.split_once(' ') {
+            Some((name, pairs)) => CommandRow::Pairs(name, pairs),
             None => CommandRow::Unknown,
         }
     }

@@ -56,6 +56,7 @@ impl Shelf {
     fn input_of(&mut self, alloc: Global, input: Input<'_>) -> Result<Option<Vec<u8>>, NoMemory> {
         match input {
             Input::Plain(text) => Ok(Some(self.bytes_of(alloc, text)?)),
+            Input::Heads(text) => Ok(Some(self.bytes_of(alloc, heads_of(alloc, text)?.as_str())?)),
             Input::Pairs(pairs) => bytes_shown(alloc, pairs),
         }
     }
@@ -77,6 +78,34 @@ impl Shelf {
         self.write(name, bytes.as_slice())
     }
 
+    /// From now on the name stands for a file of these bytes; or why there is none comes out.
+    pub fn keep_pairs(
+        &mut self,
+        alloc: Global,
+        name: &str,
+        pairs: &str,
+        out: &mut String,
+    ) -> Result<(), NoMemory> {
+        match bytes_shown(alloc, pairs)? {
+            Some(bytes) => self.write(name, bytes.as_slice()),
+            None => Ok(out.push_str(" => no row")?),
+        }
+    }
+
+    /// Appends what the name stands for.
+    pub fn show_file(&self, alloc: Global, name: &str, out: &mut String) -> Result<(), NoMemory> {
+        out.push_str(" =>")?;
+        match self.files.file(name) {
+            Some(bytes) => {
+                if bytes.is_empty() {
+                    return Ok(out.push_str(" empty")?);
+                }
+                show(alloc, bytes, out)
+            }
+            None => Ok(out.push_str(" nothing")?),
+        }
+    }
+
     // From now on the name stands for these bytes.
     fn write(&mut self, name: &str, bytes: &[u8]) -> Result<(), NoMemory> {
         match self.files.write(name, bytes) {
@@ -85,8 +114,8 @@ impl Shelf {
         }
     }
 
-    /// Runs these words on an input, and appends its answer: the status and what was put, where `\n` is a line feed. What was put
-    /// for a body in CBOR is shown as pairs of hexadecimal digits.
+    /// Runs these words on an input, and appends its answer: the status and what was put, where `|` is CR LF and `\n` a line feed. What was
+    /// put for a body in CBOR, and what is no text, is shown as pairs of hexadecimal digits.
     pub fn run(
         &mut self,
         alloc: Global,
@@ -103,7 +132,8 @@ impl Shelf {
         let mut input = given.input(alloc, bytes)?;
         let mut put = given.output(alloc)?;
         let mut patterns = RegexPatterns::new(alloc);
-        self.files.begin(given.failing_read());
+        self.files
+            .begin(given.failing_read(), given.failing_write());
         let status = run(
             alloc,
             words.as_slice(),
@@ -119,6 +149,11 @@ impl Shelf {
         }
         show(alloc, put.bytes(), out)
     }
+}
+
+// A text of a row where `|` is CR LF.
+fn heads_of(alloc: Global, text: &str) -> Result<String, NoMemory> {
+    Ok(text.replace(alloc, "|", "\r\n")?)
 }
 
 // The words that stand in a row, with a blank between two.
@@ -148,11 +183,12 @@ fn show(alloc: Global, put: &[u8], out: &mut String) -> Result<(), NoMemory> {
     match std::str::from_utf8(put) {
         Ok(text) => {
             out.push(' ')?;
-            out.push_str(text.replace(alloc, "\n", "\\n")?.as_str())?;
+            let text = text.replace(alloc, "\r\n", "|")?;
+            out.push_str(text.as_str().replace(alloc, "\n", "\\n")?.as_str())?;
+            Ok(())
         }
-        Err(_) => out.push_str(" no text")?,
+        Err(_) => show_pairs(put, out),
     }
-    Ok(())
 }
 
 // Appends a blank and pairs of hexadecimal digits.
@@ -167,6 +203,12 @@ impl Player for Shelf {
             CommandRow::Pad(length) => self.pad(length),
             CommandRow::Next(asked) => self.ask(asked),
             CommandRow::File(name, text) => self.keep(alloc, name, text)?,
+            CommandRow::Heads(name, text) => {
+                let text = heads_of(alloc, text)?;
+                self.keep(alloc, name, text.as_str())?;
+            }
+            CommandRow::Pairs(name, pairs) => self.keep_pairs(alloc, name, pairs, out)?,
+            CommandRow::Shows(name) => self.show_file(alloc, name, out)?,
             CommandRow::Line(name, text) => self.append(alloc, name, text)?,
             CommandRow::Model(name, size) => self.keep(alloc, name, size.model(alloc)?.as_str())?,
             CommandRow::Change(read, name, text) => self

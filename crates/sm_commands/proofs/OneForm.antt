@@ -7,9 +7,11 @@ use Rattle.sm_model_commands.specs.Forms.{GraphForm, IsCheckForm, IsConvertForm,
 use Rattle.sm_model_commands.proofs.GraphWords.{convert_words_same}
 use Rattle.sm_body_command.specs.BodyWords.{IsBodyForm, form_word}
 use Rattle.sm_body_command.proofs.SideWords.{body_words_same}
+use Rattle.sm_cross_command.specs.CrossWords.{CrossAsked, IsCrossForm, words_behind}
+use Rattle.sm_cross_command.proofs.CrossForms.{cross_words_same}
 use Rattle.sm_schema_command.specs.SchemaForm.{IsSchemaForm, names_word}
 use Rattle.sm_schema_command.proofs.NamesWords.{schema_words_same}
-use Rattle.sm_commands.specs.Commands.{Command, body_command, check_command, convert_command, schema_command, select_command}
+use Rattle.sm_commands.specs.Commands.{Command, body_command, check_command, convert_command, cross_command, schema_command, select_command}
 use Rattle.sm_commands.specs.Commands.{IsCommandForm, IsNoForm, OneCommandForm, first_word}
 
 -- words that are told apart differ
@@ -23,6 +25,7 @@ begins words (body_command model shape near far) h = (model ∷ shape ∷ form_w
 begins words (convert_command models form) h = (models ++ h.last ∷ [], h.over.are)
 begins words (select_command models selector) h = (models ++ selector ∷ [], h.are)
 begins words (schema_command model shape json_names) h = (model ∷ shape ∷ names_word json_names ∷ [], h)
+begins words (cross_command w) h = (w.models ++ words_behind w, h.are.are)
 
 first_same : (words : List (List ℕ)) (x y : Command) → IsCommandForm words x → IsCommandForm words y → first_word x ≡ first_word y
 first_same words x y h i =
@@ -47,6 +50,7 @@ one_form words (schema_command model shape json_names) (schema_command model1 sh
     let both = schema_words_same words model shape model1 shape1 json_names json_names1 h i in
     ap (λ x. schema_command x shape json_names) both.same_model ∙ ap (λ x. schema_command model1 x json_names) both.same_shape
     ∙ ap (λ x. schema_command model1 shape1 x) both.same_names
+one_form words (cross_command w) (cross_command v) h i = ap cross_command (cross_words_same words w v h i)
 one_form words x y h i = absurd (apart (first_word x) (first_word y) refl (first_same words x y h i))
 
 -- words of no command's form
@@ -54,10 +58,13 @@ pub no_form : (words : List (List ℕ)) → ((models : List (List ℕ)) → IsCh
     → ((model shape : List ℕ) (near far : BodyForm) → IsBodyForm words model shape near far → ⊥)
     → ((models : List (List ℕ)) (form : GraphForm) → IsConvertForm words models form → ⊥)
     → ((models : List (List ℕ)) (selector : List ℕ) → IsSelectForm words models selector → ⊥)
-    → ((model shape : List ℕ) (json_names : Bool) → IsSchemaForm words model shape json_names → ⊥) → IsNoForm words
-no_form words no_check no_body no_convert no_select no_schema (check_command models) h = no_check models h
-no_form words no_check no_body no_convert no_select no_schema (body_command model shape near far) h = no_body model shape near far h
-no_form words no_check no_body no_convert no_select no_schema (convert_command models form) h = no_convert models form h
-no_form words no_check no_body no_convert no_select no_schema (select_command models selector) h = no_select models selector h
-no_form words no_check no_body no_convert no_select no_schema (schema_command model shape json_names) h =
+    → ((model shape : List ℕ) (json_names : Bool) → IsSchemaForm words model shape json_names → ⊥)
+    → ((w : CrossAsked) → IsCrossForm words w → ⊥) → IsNoForm words
+no_form words no_check no_body no_convert no_select no_schema no_cross (check_command models) h = no_check models h
+no_form words no_check no_body no_convert no_select no_schema no_cross (body_command model shape near far) h =
+    no_body model shape near far h
+no_form words no_check no_body no_convert no_select no_schema no_cross (convert_command models form) h = no_convert models form h
+no_form words no_check no_body no_convert no_select no_schema no_cross (select_command models selector) h = no_select models selector h
+no_form words no_check no_body no_convert no_select no_schema no_cross (schema_command model shape json_names) h =
     no_schema model shape json_names h
+no_form words no_check no_body no_convert no_select no_schema no_cross (cross_command w) h = no_cross w h

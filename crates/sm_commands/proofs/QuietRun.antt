@@ -1,8 +1,7 @@
 -- Where no count of faults rose, a run of words of a form puts its answer, or memory ran out; and a command that doesn't touch
 -- the input leaves it as it was.
-use Rattle.std.proofs.Common.{◌≡◌, ◌⊎◌, ℕ, List, Bool, Option, None, Some, inl, inr, ap, subst, refl}
+use Rattle.std.proofs.Common.{◌≡◌, ℕ, List, Option, None, Some, inl, inr, ap, subst, refl}
 use Rattle.std.specs.Prelude.{true, false}
-use Rattle.sm_io.specs.Causes.{Rose}
 use Rattle.sm_io.proofs.Counts.{quiet_not_rose}
 use Rattle.sm_asked.specs.Answer.{Answer}
 use Rattle.sm_asked.specs.CommandAsked.{Answers, CommandAsked, RefusedBy, StopsShort, told_by}
@@ -11,11 +10,11 @@ use Rattle.sm_asked.specs.Outside.{InputsSeen, Outside}
 use Rattle.sm_asked.specs.declared.status.Status.{Status}
 use Rattle.sm_asked.specs.declared.status.Status.TheVariants.{Done, Refused, Usage, ReadFault, WriteFault, NoMemory, Pattern, Limit}
 use Rattle.sm_commands.specs.Commands.{Command, IsCommandForm, asked_of}
-use Rattle.sm_commands.specs.Run.{IfStreams, PrintsFor, ReadEnds, StreamFails, WriteEnds, WriteFails}
+use Rattle.sm_asked_ends.specs.AskedEnds.{AnswersFor, MemoryEnds, ReadEnds, WriteEnds}
+use Rattle.sm_asked_ends.proofs.EndsPrinted.{comes_short}
 use Rattle.sm_commands.specs.RunLaws.{IsQuiet, QuietRunAnswers, KeepsInput, KeepsRefusals}
 use Rattle.sm_commands.proofs.OneForm.{one_form}
 use Rattle.sm_commands.proofs.Commanded.{input_reached}
-use Rattle.sm_commands.proofs.Runs.{comes_short}
 
 no_read_fails : (before after : Outside) (asked : CommandAsked) → IsQuiet before after → ReadEnds before after asked → ⊥
 no_read_fails before after asked quiet (inl h) =
@@ -23,20 +22,10 @@ no_read_fails before after asked quiet (inl h) =
 no_read_fails before after asked quiet (inr h) =
     quiet_not_rose before.inputs.input.faults after.inputs.input.faults quiet.input h.0.rose
 
--- a write that failed: what rose, and what is left of the input
-write_rose : (before after : Outside) (asked : CommandAsked) (streams : Bool)
-    → IfStreams streams (StreamFails before after asked) (WriteFails before after asked)
-    → Rose before.output.faults after.output.faults ⊎ Rose before.inputs.files.write_faults after.inputs.files.write_faults
-write_rose before after asked true h = h.rose
-write_rose before after asked false h = inl h.2
-
-write_short : (before after : Outside) (asked : CommandAsked) (streams : Bool) → ReachesInput asked
-    → IfStreams streams (StreamFails before after asked) (WriteFails before after asked) → StopsShort before.inputs after.inputs asked
-write_short before after asked true reach h = h.short
-write_short before after asked false reach h = comes_short before.inputs after.inputs asked h.0 reach h.1
-
 no_write_fails : (before after : Outside) (asked : CommandAsked) → IsQuiet before after → WriteEnds before after asked → ⊥
-no_write_fails before after asked quiet h = elim (write_rose before after asked asked.streams h) [
+no_write_fails before after asked quiet (inl h) =
+    quiet_not_rose before.output.faults after.output.faults quiet.output h.2
+no_write_fails before after asked quiet (inr h) = elim h.rose [
   | inl rose ↦ quiet_not_rose before.output.faults after.output.faults quiet.output rose
   | inr rose ↦ quiet_not_rose before.inputs.files.write_faults after.inputs.files.write_faults quiet.files.writes rose
 ]
@@ -77,10 +66,25 @@ same_untouching words command ran is is1 untouching =
     subst (λ x. (asked_of x).touches_input ≡ false) (one_form words command ran is is1) untouching
 
 prints_keeps : (before after : Outside) (status : Status) (asked : CommandAsked) → ReachesInput asked → asked.touches_input ≡ false
-    → PrintsFor before after status asked → after.inputs.input ≡ before.inputs.input
-prints_keeps before after status asked reach untouching h =
+    → AnswersFor before after status asked → after.inputs.input ≡ before.inputs.input
+prints_keeps before after status asked reach untouching (inl h) =
     short_keeps before.inputs after.inputs asked reach untouching
     (comes_short before.inputs after.inputs asked (record { status = status; text = h.0 }) reach h.1)
+prints_keeps before after status asked reach untouching (inr h) =
+    absurd (never_reached before.inputs None asked reach untouching h.streamed.reached)
+
+write_keeps : (before after : Outside) (asked : CommandAsked) → ReachesInput asked → asked.touches_input ≡ false → WriteEnds before after asked
+    → after.inputs.input ≡ before.inputs.input
+write_keeps before after asked reach untouching (inl h) =
+    short_keeps before.inputs after.inputs asked reach untouching (comes_short before.inputs after.inputs asked h.0 reach h.1)
+write_keeps before after asked reach untouching (inr h) =
+    absurd (never_reached before.inputs None asked reach untouching h.streamed.reached)
+
+memory_keeps : (before after : Outside) (asked : CommandAsked) → ReachesInput asked → asked.touches_input ≡ false
+    → MemoryEnds before after asked → after.inputs.input ≡ before.inputs.input
+memory_keeps before after asked reach untouching (inl h) = short_keeps before.inputs after.inputs asked reach untouching h.short
+memory_keeps before after asked reach untouching (inr h) =
+    absurd (never_reached before.inputs None asked reach untouching h.0.reached)
 
 pub keeps_input : KeepsInput
 keeps_input words command before after Done is untouching ends = prints_keeps before after Done (asked_of ends.0) (input_reached ends.0)
@@ -97,12 +101,9 @@ keeps_input words command before after Usage is untouching (none, same) = absurd
 keeps_input words command before after ReadFault is untouching ends =
     fails_keeps before after (asked_of ends.0) (input_reached ends.0) (same_untouching words command ends.0 is ends.1 untouching) ends.2
 keeps_input words command before after WriteFault is untouching ends =
-    short_keeps before.inputs after.inputs (asked_of ends.0) (input_reached ends.0)
-    (same_untouching words command ends.0 is ends.1 untouching)
-    (write_short before after (asked_of ends.0) (asked_of ends.0).streams (input_reached ends.0) ends.2)
+    write_keeps before after (asked_of ends.0) (input_reached ends.0) (same_untouching words command ends.0 is ends.1 untouching) ends.2
 keeps_input words command before after NoMemory is untouching ends =
-    short_keeps before.inputs after.inputs (asked_of ends.0) (input_reached ends.0)
-    (same_untouching words command ends.0 is ends.1 untouching) ends.2.0
+    memory_keeps before after (asked_of ends.0) (input_reached ends.0) (same_untouching words command ends.0 is ends.1 untouching) ends.2
 
 -- an answer of another status refuses no pattern
 none_refused : (before after : InputsSeen) (asked : CommandAsked) (a : Answer) → (a.status ≡ Pattern → ⊥) → Answers before after asked a
@@ -114,13 +115,16 @@ none_refused before after asked a other h = by_pattern h.pattern h.by h.only
     by_pattern None by only = by
     by_pattern (Some u) by only = absurd (other (only u refl))
 
+answers_keep : (before after : Outside) (status : Status) (asked : CommandAsked) → (status ≡ Pattern → ⊥)
+    → AnswersFor before after status asked → after.inputs.store.refusals ≡ before.inputs.store.refusals
+answers_keep before after status asked other (inl h) =
+    none_refused before.inputs after.inputs asked (record { status = status; text = h.0 }) other h.1
+answers_keep before after status asked other (inr h) = h.streamed.refusals
+
 pub keeps_refusals : KeepsRefusals
-keeps_refusals words before after Done (ran, is, (text, comes, put, written)) none =
-    none_refused before.inputs after.inputs (asked_of ran) (record { status = Done; text = text }) (λ e. cc) comes
-keeps_refusals words before after Refused (ran, is, (text, comes, put, written)) none =
-    none_refused before.inputs after.inputs (asked_of ran) (record { status = Refused; text = text }) (λ e. cc) comes
-keeps_refusals words before after Limit (ran, is, (text, comes, put, written)) none =
-    none_refused before.inputs after.inputs (asked_of ran) (record { status = Limit; text = text }) (λ e. cc) comes
+keeps_refusals words before after Done ends none = answers_keep before after Done (asked_of ends.0) (λ e. cc) ends.2
+keeps_refusals words before after Refused ends none = answers_keep before after Refused (asked_of ends.0) (λ e. cc) ends.2
+keeps_refusals words before after Limit ends none = answers_keep before after Limit (asked_of ends.0) (λ e. cc) ends.2
 keeps_refusals words before after Usage (no_form, same) none = ap (λ (x : Outside). x.inputs.store.refusals) same
 keeps_refusals words before after ReadFault (ran, is, inl h) none = h.0.refusals
 keeps_refusals words before after ReadFault (ran, is, inr h) none = h.0.refusals

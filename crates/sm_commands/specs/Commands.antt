@@ -8,6 +8,8 @@ use Rattle.sm_model_commands.specs.Forms.{GraphForm, IsCheckForm, IsConvertForm,
 use Rattle.sm_model_commands.specs.Select.{select_asked}
 use Rattle.sm_body_command.specs.Body.{body_asked}
 use Rattle.sm_body_command.specs.BodyWords.{IsBodyForm}
+use Rattle.sm_cross_command.specs.Cross.{cross_asked}
+use Rattle.sm_cross_command.specs.CrossWords.{CrossAsked, IsCrossForm}
 use Rattle.sm_schema_command.specs.Schema.{schema_asked}
 use Rattle.sm_schema_command.specs.SchemaForm.{IsSchemaForm}
 
@@ -22,6 +24,8 @@ pub data Command : Type 0 where
   select_command : (models : List (List ℕ)) → (selector : List ℕ) → Command
   -- schema MODELFILE SHAPE NAMES
   schema_command : (model shape : List ℕ) → (json_names : Bool) → Command
+  -- cross MODEL+ SERVICE FRONT BACK HOST BACKFILE OUTFILE
+  cross_command : (words : CrossAsked) → Command
 
 -- the words have the form of the command
 abbrev pub IsCommandForm : List (List ℕ) → Command → Type 0
@@ -30,6 +34,7 @@ IsCommandForm words (body_command model shape near far) = IsBodyForm words model
 IsCommandForm words (convert_command models form) = IsConvertForm words models form
 IsCommandForm words (select_command models selector) = IsSelectForm words models selector
 IsCommandForm words (schema_command model shape json_names) = IsSchemaForm words model shape json_names
+IsCommandForm words (cross_command w) = IsCrossForm words w
 
 -- what it asks
 abbrev pub asked_of : Command → CommandAsked
@@ -38,6 +43,7 @@ asked_of (body_command model shape near far) = body_asked model shape near far
 asked_of (convert_command models form) = convert_asked models form
 asked_of (select_command models selector) = select_asked models selector
 asked_of (schema_command model shape json_names) = schema_asked model shape json_names
+asked_of (cross_command w) = cross_asked w
 
 -- its first word
 abbrev pub first_word : Command → List ℕ
@@ -46,6 +52,7 @@ first_word (body_command model shape near far) = codes "body"
 first_word (convert_command models form) = codes "convert"
 first_word (select_command models selector) = codes "select"
 first_word (schema_command model shape json_names) = codes "schema"
+first_word (cross_command w) = codes "cross"
 
 -- the words have the form of none
 abbrev pub IsNoForm : List (List ℕ) → Type 0
@@ -59,3 +66,7 @@ OneCommandForm = (words : List (List ℕ)) (command command1 : Command) → IsCo
 -- the files that such words name to be read may be read
 abbrev pub LetsRead : (List ℕ → Type 0) → List (List ℕ) → Type 0
 LetsRead lets words = (command : Command) (name : List ℕ) → IsCommandForm words command → Contains (asked_of command).reads name → lets name
+
+-- and those that they name to be written may be written
+abbrev pub LetsWrite : (List ℕ → Type 0) → List (List ℕ) → Type 0
+LetsWrite lets words = (command : Command) (name : List ℕ) → IsCommandForm words command → Contains (asked_of command).writes name → lets name

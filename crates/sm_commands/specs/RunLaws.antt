@@ -1,10 +1,12 @@
 -- That two runs over one outside end alike, and that the answer is put where nothing failed.
-use Rattle.std.specs.Prelude.{◌≡◌, ◌⊎◌, ◌<◌, ℕ, false, List}
+use Rattle.std.specs.Prelude.{◌≡◌, ◌⊎◌, ◌<◌, ℕ, false, List, Option}
 use Rattle.std.specs.Io.KnownBytes.{Appends}
 use Rattle.sm_io.specs.Causes.{Quiet, last_count}
 use Rattle.sm_io.specs.Files.{Folder}
 use Rattle.sm_io.specs.Seen.{QuietFiles}
+use Rattle.sm_asked.specs.Answer.{FileWritten}
 use Rattle.sm_asked.specs.Outside.{Outside}
+use Rattle.sm_asked_ends.specs.AskedEnds.{IsWritten}
 use Rattle.sm_commands.specs.Commands.{Command, IsCommandForm, asked_of}
 use Rattle.sm_asked.specs.Stages.{Told}
 use Rattle.sm_asked.specs.AskedLaws.{TellsAll}
@@ -33,14 +35,23 @@ pub record IsAnsweredRun (words : List (List ℕ)) (t : Told) (before after : Ou
   pub ends : RunEnds words before after status
   pub answered : IsAnswered status
 
--- a law: the words, the files, the input and the store determine the status and the bytes that are put. So each status
--- comes exactly where its reason is, but for faults of the outside and where memory runs out
+-- two runs end alike: by one status, one text is put and one file is written, if any
+pub record EndAlike (before after before1 after1 : Outside) (status status1 : Status) : Type 0 where
+  pub same : status ≡ status1
+  pub text : List ℕ
+  pub put : Appends before.output.bytes after.output.bytes text
+  pub put1 : Appends before1.output.bytes after1.output.bytes text
+  pub file : Option FileWritten
+  pub written : IsWritten before.inputs.files.held after.inputs.files.held file
+  pub written1 : IsWritten before1.inputs.files.held after1.inputs.files.held file
+
+-- a law: the words, the files, the input and the store determine the status, the bytes that are put and the file that is written. So each
+-- status comes exactly where its reason is, but for faults of the outside and where memory runs out
 abbrev pub OneRunAnswer : Type 0
 OneRunAnswer = (words : List (List ℕ)) (t : Told) (folder : Folder) (input : List ℕ) (before after before1 after1 : Outside)
     (status status1 : Status)
     → TellsAll t folder input → IsAnsweredRun words t before after status → IsAnsweredRun words t before1 after1 status1
-    → (status ≡ status1)
-    × ((text : List ℕ) × Appends before.output.bytes after.output.bytes text × Appends before1.output.bytes after1.output.bytes text)
+    → EndAlike before after before1 after1 status status1
 
 -- no count of faults rose in between: neither those of reads and writes of files, nor those of the input and of the output
 pub record IsQuiet (before after : Outside) : Type 0 where

@@ -1,2 +1,2 @@
-pub mod PutSteps
+pub mod CarrySteps
 pub mod FormSteps

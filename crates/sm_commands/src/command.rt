@@ -7,15 +7,18 @@ ghost use Rattle.sm_compile.specs.Answers.{seen_store};
 ghost use Rattle.sm_asked.specs.CommandAsked.{OnlyAdds};
 ghost use Rattle.sm_asked.specs.Comes.{CommandComesTo};
 ghost use Rattle.sm_asked.specs.Outside.{inputs_seen, outside};
-ghost use Rattle.sm_commands.specs.Commands.{LetsRead, asked_of};
+ghost use Rattle.sm_asked_ends.specs.AskedEnds.{AskedEnds};
+ghost use Rattle.sm_commands.specs.Commands.{IsCommandForm, LetsRead, LetsWrite, asked_of};
 ghost use Rattle.sm_commands.specs.Run.{KeepsFiles, RunAnswers, WritingNone};
-ghost use Rattle.sm_commands.specs.steps.FormSteps.{command_of};
-ghost use Rattle.sm_commands.specs.steps.PutSteps.{PrintsResult, PutEnds};
+ghost use Rattle.sm_commands.specs.steps.CarrySteps.{KeepsUnnamed, NamingNone};
+ghost use Rattle.sm_commands.specs.steps.FormSteps.{command_of, whole_command};
 
-use crate::words::{CommandForm, form_of};
+use crate::words::{CommandForm, WholeForm, form_of};
 use sm_asked::{CommandStop, Status};
+use sm_asked_ends::print;
 use sm_body_command::body::body;
-use sm_io::{Files, PutRefusal, Sink, Source};
+use sm_cross_command::cross::cross;
+use sm_io::{Files, Sink, Source};
 use sm_model_commands::check::check;
 use sm_model_commands::convert::convert;
 use sm_model_commands::select::select;
@@ -27,19 +30,19 @@ use std::alloc::Global;
 // What a command comes to: what it prints, or why it ends before.
 fn come_to<F: Files, S: Source, P: Patterns>(
     alloc: Global,
-    form: CommandForm<'_>,
+    form: WholeForm<'_>,
     files: &mut F,
     input: &mut S,
     patterns: &mut P,
 ) -> Result<Vec<u8>, CommandStop>
-    requires { (name : List ℕ) → Contains (asked_of (command_of form)).reads name → F.lets_read files.old name }
+    requires { (name : List ℕ) → Contains (asked_of (whole_command form)).reads name → F.lets_read files.old name }
     ensures comes { let before = inputs_seen (files_seen (F.held files.old) (F.read_faults files.old) (F.write_faults files.old))
         (stream (S.left input.old) (S.faults input.old))
         P.test (seen_store (P.added patterns.old) (P.refused patterns.old) (P.refusals patterns.old)) in
         let after = inputs_seen (files_seen (F.held files.new) (F.read_faults files.new) (F.write_faults files.new))
         (stream (S.left input.new) (S.faults input.new))
         P.test (seen_store (P.added patterns.new) (P.refused patterns.new) (P.refusals patterns.new)) in
-        CommandComesTo before after (asked_of (command_of form.entry)) result }
+        CommandComesTo before after (asked_of (whole_command form.entry)) result }
     ensures held { F.held files.new ≡ F.held files.old }
     ensures read_faults { F.read_faults files.old ≤ F.read_faults files.new }
     ensures write_faults { F.write_faults files.new ≡ F.write_faults files.old }
@@ -50,46 +53,52 @@ fn come_to<F: Files, S: Source, P: Patterns>(
     ensures added { OnlyAdds (P.added patterns.old) (P.added patterns.new) }
 {
     match form {
-        CommandForm::Check(words) => check(alloc, words, files),
-        CommandForm::Body(words) => body(alloc, words, files, input, patterns),
-        CommandForm::Convert(words) => convert(alloc, words, files),
-        CommandForm::Select(words) => select(alloc, words, files),
-        CommandForm::Schema(words) => schema(alloc, words, files, patterns),
+        WholeForm::Check(words) => check(alloc, words, files),
+        WholeForm::Body(words) => body(alloc, words, files, input, patterns),
+        WholeForm::Convert(words) => convert(alloc, words, files),
+        WholeForm::Select(words) => select(alloc, words, files),
+        WholeForm::Schema(words) => schema(alloc, words, files, patterns),
     }
 }
 
-// Puts a piece, and ends with this status where that succeeds.
-fn put<K: Sink>(out: &mut K, piece: &[u8], status: Status) -> Status
-    ensures ends { PutEnds
-        (stream (K.written out.old) (K.faults out.old))
-        (stream (K.written out.new) (K.faults out.new))
-        piece.now status result }
+// Carries out a command, and prints what it came to, but for one that puts its answer as it comes.
+fn carry_out<F: Files, S: Source, K: Sink, P: Patterns>(
+    alloc: Global,
+    form: CommandForm<'_>,
+    files: &mut F,
+    input: &mut S,
+    out: &mut K,
+    patterns: &mut P,
+) -> Status
+    requires formed { (words : List (List ℕ)) × IsCommandForm words (command_of form) }
+    requires reads { (name : List ℕ) → Contains (asked_of (command_of form)).reads name → F.lets_read files.old name }
+    requires writes { (name : List ℕ) → Contains (asked_of (command_of form)).writes name → F.lets_write files.old name }
+    ensures ends { let before = inputs_seen (files_seen (F.held files.old) (F.read_faults files.old) (F.write_faults files.old))
+        (stream (S.left input.old) (S.faults input.old))
+        P.test (seen_store (P.added patterns.old) (P.refused patterns.old) (P.refusals patterns.old)) in
+        let after = inputs_seen (files_seen (F.held files.new) (F.read_faults files.new) (F.write_faults files.new))
+        (stream (S.left input.new) (S.faults input.new))
+        P.test (seen_store (P.added patterns.new) (P.refused patterns.new) (P.refusals patterns.new)) in
+        AskedEnds (outside before (stream (K.written out.old) (K.faults out.old)))
+        (outside after (stream (K.written out.new) (K.faults out.new))) (asked_of (command_of form.entry)) result }
+    ensures files { KeepsUnnamed (asked_of (command_of form.entry)) (F.held files.old) (F.held files.new) }
+    ensures held { NamingNone (asked_of (command_of form.entry)) (F.held files.new ≡ F.held files.old) }
+    ensures write_faults { NamingNone (asked_of (command_of form.entry)) (F.write_faults files.new ≡ F.write_faults files.old) }
+    ensures read_faults { F.read_faults files.old ≤ F.read_faults files.new }
+    ensures write_later { F.write_faults files.old ≤ F.write_faults files.new }
+    ensures same_reads { LetsSame (F.lets_read files.old) (F.lets_read files.new) }
+    ensures same_writes { LetsSame (F.lets_write files.old) (F.lets_write files.new) }
+    ensures prefix { LosesPrefix (S.left input.old) (S.left input.new) }
+    ensures input_faults { S.faults input.old ≤ S.faults input.new }
     ensures output_faults { K.faults out.old ≤ K.faults out.new }
+    ensures added { OnlyAdds (P.added patterns.old) (P.added patterns.new) }
 {
-    match out.put(piece) {
-        Ok(()) => status,
-        Err(PutRefusal::Failed) => Status::WriteFault,
-        Err(PutRefusal::NoMemory) => Status::NoMemory,
-    }
-}
-
-// Prints what a command came to.
-fn print<K: Sink>(out: &mut K, came: Result<Vec<u8>, CommandStop>) -> Status
-    ensures prints { PrintsResult
-        (stream (K.written out.old) (K.faults out.old))
-        (stream (K.written out.new) (K.faults out.new))
-        came result }
-    ensures output_faults { K.faults out.old ≤ K.faults out.new }
-{
-    match came {
-        Ok(text) => put(out, &text, Status::Done),
-        Err(stop) => match stop {
-            CommandStop::Refused(line) => put(out, &line, Status::Refused),
-            CommandStop::Pattern(line) => put(out, &line, Status::Pattern),
-            CommandStop::Limit(line) => put(out, &line, Status::Limit),
-            CommandStop::ReadFault => Status::ReadFault,
-            CommandStop::NoMemory => Status::NoMemory,
-        },
+    match form {
+        CommandForm::Whole(form) => {
+            let came = come_to(alloc, form, files, input, patterns);
+            print(out, came)
+        }
+        CommandForm::Cross(words) => cross(alloc, words, files, input, out, patterns),
     }
 }
 
@@ -104,10 +113,14 @@ fn print<K: Sink>(out: &mut K, came: Result<Vec<u8>, CommandStop>) -> Status
 /// selector picks in their graph, one a line (0); what `convert` refuses is refused here too, and then a text that is no selector (1).
 /// `check MODEL+` prints all events of their model, one a line (0, or 1 where one of them rejects it); else what `convert` refuses.
 /// `schema MODELFILE SHAPE NAMES` prints the JSON Schema of a shape (0), by the names of members or by their JSON names; what `body` refuses
-/// before its input is refused here too.
+/// before its input is refused here too. `cross MODEL+ SERVICE FRONT BACK HOST BACKFILE OUTFILE` runs a session of a gateway over the input,
+/// whose answers are put, and over the answers of the back in BACKFILE; the requests to the back are written to OUTFILE. Its status is that of
+/// the session's end: closed (0), ended or broken off by the front or the back (1), past the most turns (7); before it the models, the service
+/// (1), a pattern that it reaches (6), a protocol whose messages aren't read yet (1) and the length of BACKFILE (7) are refused.
 ///
-/// 2: the words have no form, and nothing is touched. 3: a read of the file or of the input failed, and nothing
-/// is put. 4: the output failed, and holds a prefix of what was to be put. 5: memory ran out, and nothing is put.
+/// 2: the words have no form, and nothing is touched. 3: a read of a file or of the input failed, and nothing is put, but by `cross` the
+/// answers to what was read. 4: the output failed, and holds a prefix of what was to be put, or OUTFILE couldn't be written. 5: memory ran out,
+/// and nothing is put, but by `cross` a prefix.
 /// 3 and 4 come only where that object's count of faults rose, and 6 only where the store's count of refusals did. To the store patterns
 /// are only added.
 pub fn run<F: Files, S: Source, K: Sink, P: Patterns>(
@@ -118,7 +131,8 @@ pub fn run<F: Files, S: Source, K: Sink, P: Patterns>(
     out: &mut K,
     patterns: &mut P,
 ) -> u8
-    requires { LetsRead (F.lets_read files.old) words.now }
+    requires reads { LetsRead (F.lets_read files.old) words.now }
+    requires writes { LetsWrite (F.lets_write files.old) words.now }
     ensures answers { let before = inputs_seen (files_seen (F.held files.old) (F.read_faults files.old) (F.write_faults files.old))
         (stream (S.left input.old) (S.faults input.old))
         P.test (seen_store (P.added patterns.old) (P.refused patterns.old) (P.refusals patterns.old)) in
@@ -131,6 +145,7 @@ pub fn run<F: Files, S: Source, K: Sink, P: Patterns>(
     ensures held { WritingNone words.now (F.held files.new ≡ F.held files.old) }
     ensures write_faults { WritingNone words.now (F.write_faults files.new ≡ F.write_faults files.old) }
     ensures read_faults { F.read_faults files.old ≤ F.read_faults files.new }
+    ensures write_later { F.write_faults files.old ≤ F.write_faults files.new }
     ensures same_reads { LetsSame (F.lets_read files.old) (F.lets_read files.new) }
     ensures same_writes { LetsSame (F.lets_write files.old) (F.lets_write files.new) }
     ensures prefix { LosesPrefix (S.left input.old) (S.left input.new) }
@@ -139,10 +154,7 @@ pub fn run<F: Files, S: Source, K: Sink, P: Patterns>(
     ensures added { OnlyAdds (P.added patterns.old) (P.added patterns.new) }
 {
     match form_of(words) {
-        Some(form) => {
-            let came = come_to(alloc, form, files, input, patterns);
-            print(out, came).code()
-        }
+        Some(form) => carry_out(alloc, form, files, input, out, patterns).code(),
         None => Status::Usage.code(),
     }
 }

@@ -8,8 +8,8 @@ pub fn one_form()
     ensures { OneCommandForm }
 {}
 
-/// The files, the input and the store of patterns determine what a command comes to. So they and the words determine the status and what is
-/// put, but for faults of the outside and where memory runs out: each status comes exactly where `run` says why.
+/// The files, the input and the store of patterns determine what a command comes to. So they and the words determine the status, what is put
+/// and what is written, but for faults of the outside and where memory runs out: each status comes exactly where `run` says why.
 pub fn one_answer()
     ensures said { OneAnswer }
     ensures runs { OneRunAnswer }
@@ -17,6 +17,7 @@ pub fn one_answer()
     sm_model_commands::laws::one_answer();
     sm_body_command::laws::one_answer();
     sm_schema_command::laws::one_answer();
+    sm_cross_command::laws::one_answer();
 }
 
 /// Where its files are there a command comes to an answer, whatever they and the input hold: what `run` says leaves no case to `NoMemory`.
@@ -26,6 +27,7 @@ pub fn some_answer()
     sm_model_commands::laws::some_answer();
     sm_body_command::laws::some_answer();
     sm_schema_command::laws::some_answer();
+    sm_cross_command::laws::some_answer();
 }
 
 /// Where the words have a form and no count of faults rose, the answer is put, or memory ran out.

@@ -3,12 +3,13 @@
 use sm_io::{FileRefusal, Files, PutRefusal, Sink};
 use std::alloc::Global;
 
-/// Files that remember the name of the one that couldn't be read.
+/// Files that remember the names of the one that couldn't be read and of the one that couldn't be written.
 #[derive(Drop)]
 pub struct Noted<F> {
     alloc: Global,
     files: F,
     failed: Option<String>,
+    unwritten: Option<String>,
 }
 
 impl<F: Files> Noted<F> {
@@ -18,15 +19,25 @@ impl<F: Files> Noted<F> {
             alloc,
             files,
             failed: None,
+            unwritten: None,
         }
     }
 
     /// The name of the file whose read failed last.
     pub fn failed(&self) -> Option<&str> {
-        match &self.failed {
-            Some(name) => Some(name.as_str()),
-            None => None,
-        }
+        name_in(&self.failed)
+    }
+
+    /// The name of the file whose write failed last.
+    pub fn unwritten(&self) -> Option<&str> {
+        name_in(&self.unwritten)
+    }
+}
+
+fn name_in(name: &Option<String>) -> Option<&str> {
+    match name {
+        Some(name) => Some(name.as_str()),
+        None => None,
     }
 }
 
@@ -60,7 +71,13 @@ impl<F: Files> Files for Noted<F> {
     }
 
     fn write(&mut self, name: &str, bytes: &[u8]) -> Result<(), FileRefusal> {
-        self.files.write(name, bytes)
+        match self.files.write(name, bytes) {
+            Ok(()) => Ok(()),
+            Err(refusal) => {
+                self.unwritten = copy_of(self.alloc, name);
+                Err(refusal)
+            }
+        }
     }
 }
 

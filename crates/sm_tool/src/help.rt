@@ -11,6 +11,8 @@ sm_tool check MODEL..
     Prints the events of model files by the rules of models: SEVERITY ID SHAPE DETAIL, one a line.
 sm_tool convert MODEL.. FORM
     Merges model files, and prints their graph: as a text of the JSON AST (ast), or a namespace of it in the IDL (idl:NAMESPACE).
+sm_tool cross MODEL.. SERVICE FRONT BACK HOST BACKFILE OUTFILE
+    Runs a gateway between two protocols of a service: requests from standard input, answers of the back from a file.
 sm_tool schema MODELFILE SHAPE NAMES
     Prints the JSON Schema of the shape, by the names of members or their JSON names: members or json.
 sm_tool select MODEL.. SELECTOR
@@ -76,6 +78,30 @@ status 0  the text is printed
        7  a limit is passed: 64 files, 4,194,304 bytes of a file, 33,554,432 of all, or one on the size of a model
 ";
 
+const CROSS: &str = "\
+sm_tool cross MODEL.. SERVICE FRONT BACK HOST BACKFILE OUTFILE
+    Runs a session of a gateway: requests in the protocol FRONT are read from standard input, and their answers printed; each crosses
+    as a request in the protocol BACK, written to OUTFILE, whose answer is the next in BACKFILE.
+
+MODEL        a model file: the JSON AST where its name ends in .json, else the IDL; 64 at most
+SERVICE      the id of a service of the model, as shop#Shop
+FRONT, BACK  awsJson1_0, awsJson1_1 or rpcv2Cbor; restJson1 is a word here, but no service is served in it yet
+HOST         the host that requests to the back name: 1 to 255 visible characters of ASCII
+
+    $ sm_tool cross shop.smithy shop#Shop awsJson1_1 rpcv2Cbor back.example answers requests < session
+    HTTP/1.1 200 OK
+    content-type: application/x-amz-json-1.1
+    ..
+
+status 0  the session was closed: refused requests and answers are answered in it
+       1  the model or the service is refused: a line says why; or the front or the back ended inside a message or sent what is none
+       2  the words have no form            3  a file or the input can't be read
+       4  the output or OUTFILE can't be written
+       5  memory ran out
+       6  a pattern of the service is no regular expression that is known here
+       7  a limit is passed: 64 files, 4,194,304 bytes of a file, 33,554,432 of all models, one on the size of a model, 1,000,000 turns
+";
+
 const SCHEMA: &str = "\
 sm_tool schema MODELFILE SHAPE NAMES
     Prints the JSON Schema (2020-12) of the shape: it accepts the bodies that body reads, as far as a schema can say it.
@@ -118,6 +144,7 @@ pub fn help_of(command: &str) -> Option<&'static str> {
         "body" => Some(BODY),
         "check" => Some(CHECK),
         "convert" => Some(CONVERT),
+        "cross" => Some(CROSS),
         "schema" => Some(SCHEMA),
         "select" => Some(SELECT),
         _ => None,
@@ -130,9 +157,11 @@ pub fn usage_of(command: &str) -> &'static str {
         "body" => "sm_tool body MODELFILE SHAPE NEAR FAR, where NEAR and FAR are json or cbor",
         "check" => "sm_tool check MODEL..",
         "convert" => "sm_tool convert MODEL.. FORM, where FORM is ast, or idl: and a namespace",
+        "cross" =>
+            "sm_tool cross MODEL.. SERVICE FRONT BACK HOST BACKFILE OUTFILE, where FRONT and BACK are protocols, as awsJson1_1",
         "schema" => "sm_tool schema MODELFILE SHAPE NAMES, where NAMES is members or json",
         "select" => "sm_tool select MODEL.. SELECTOR",
         _ =>
-            "sm_tool body, check, convert, schema or select and its words; sm_tool --help lists them",
+            "sm_tool body, check, convert, cross, schema or select and its words; sm_tool --help lists them",
     }
 }

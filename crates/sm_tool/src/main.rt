@@ -10,7 +10,7 @@ mod told;
 
 use heard::{Heard, Noted};
 use help::{HELP, VERSION, help_of};
-use sentence::{file_told, line_told, read_fault, sentence, usage};
+use sentence::{file_told, line_told, read_fault, sentence, usage, write_fault};
 use sm_commands::{Status, run};
 use sm_io::{DiskFiles, Files, StdSink, StdSource};
 use sm_shapes::RegexPatterns;
@@ -60,15 +60,23 @@ fn asked_text(words: &[Text]) -> Option<&'static str> {
     None
 }
 
-/// What is said where the output can't be written.
-const WRITE_FAULT: &str = "write fault: standard output";
-
 // Prints a text on standard output.
 fn show(rt: &HostRuntime, text: &str) -> u8 {
     match print!(rt; "{text}") {
         Ok(()) => Status::Done.code(),
         Err(_) => {
-            let _ = eprintln!(rt; "{WRITE_FAULT}");
+            complain(
+                rt,
+                said(
+                    rt,
+                    rt.alloc(),
+                    &[],
+                    Status::WriteFault.code(),
+                    None,
+                    None,
+                    &[],
+                ),
+            );
             Status::WriteFault.code()
         }
     }
@@ -151,6 +159,7 @@ fn said(
     words: &[Text],
     status: u8,
     failed: Option<&str>,
+    unwritten: Option<&str>,
     heard: &[u8],
 ) -> Result<Option<String>, NoMemory> {
     match status {
@@ -163,7 +172,7 @@ fn said(
             };
             Ok(Some(read_fault(alloc, failed, why)?))
         }
-        4 => Ok(Some(String::from_str(alloc, WRITE_FAULT)?)),
+        4 => Ok(Some(write_fault(alloc, unwritten)?)),
         5 => Ok(Some(String::from_str(alloc, "no memory")?)),
         _ => Ok(None),
     }
@@ -199,7 +208,15 @@ fn answer(rt: &HostRuntime, words: &[Text]) -> u8 {
     );
     complain(
         rt,
-        said(rt, alloc, words, status, files.failed(), out.heard()),
+        said(
+            rt,
+            alloc,
+            words,
+            status,
+            files.failed(),
+            files.unwritten(),
+            out.heard(),
+        ),
     );
     status
 }
@@ -211,7 +228,10 @@ fn main(rt: HostRuntime) -> ExitCode {
             None => answer(&rt, words.as_slice()),
         },
         Err(status) => {
-            complain(&rt, said(&rt, rt.alloc(), &[], status.code(), None, &[]));
+            complain(
+                &rt,
+                said(&rt, rt.alloc(), &[], status.code(), None, None, &[]),
+            );
             status.code()
         }
     };

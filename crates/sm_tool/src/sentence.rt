@@ -30,6 +30,12 @@ pub fn read_fault(
     Ok(format!(in alloc; "read fault: {name}: {why}")?)
 }
 
+/// What is said of a write that failed: of which file, if it was one.
+pub fn write_fault(alloc: Global, name: Option<&str>) -> Result<String, NoMemory> {
+    let name = name.unwrap_or("standard output");
+    Ok(format!(in alloc; "write fault: {name}")?)
+}
+
 // Why the outside refuses.
 fn word_of(kind: ErrorKind) -> &'static str {
     match kind {

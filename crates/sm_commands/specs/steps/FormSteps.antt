@@ -1,12 +1,20 @@
 -- The command that words ask for, as the code holds it.
 use Rattle.sm_model_commands.specs.Forms.{graph_form}
-use Rattle.sm_commands.specs.Commands.{Command, body_command, check_command, convert_command, schema_command, select_command}
+use Rattle.sm_cross_command.specs.CrossView.{cross_said}
+use Rattle.sm_commands.specs.Commands.{Command, body_command, check_command, convert_command, cross_command, schema_command, select_command}
 use Rattle.sm_commands.specs.declared.words.CommandForm.{CommandForm}
-use Rattle.sm_commands.specs.declared.words.CommandForm.TheVariants.{Body, Check, Convert, Schema, Select}
+use Rattle.sm_commands.specs.declared.words.CommandForm.TheVariants.{Cross, Whole}
+use Rattle.sm_commands.specs.declared.words.WholeForm.{WholeForm}
+use Rattle.sm_commands.specs.declared.words.WholeForm.TheVariants.{Body, Check, Convert, Schema, Select}
+
+-- one that puts its answer as one piece, and writes no file
+abbrev pub whole_command : WholeForm → Command
+whole_command (Check words) = check_command words.models.now
+whole_command (Body words) = body_command words.model.now words.shape.now words.near words.far
+whole_command (Convert words) = convert_command words.models.now (graph_form words.form)
+whole_command (Select words) = select_command words.models.now words.selector.now
+whole_command (Schema words) = schema_command words.model.now words.shape.now words.json_names
 
 abbrev pub command_of : CommandForm → Command
-command_of (Check words) = check_command words.models.now
-command_of (Body words) = body_command words.model.now words.shape.now words.near words.far
-command_of (Convert words) = convert_command words.models.now (graph_form words.form)
-command_of (Select words) = select_command words.models.now words.selector.now
-command_of (Schema words) = schema_command words.model.now words.shape.now words.json_names
+command_of (Whole form) = whole_command form
+command_of (Cross words) = cross_command (cross_said words)

@@ -9,7 +9,7 @@ use Rattle.sm_model_commands.specs.Convert.{ConvertSays}
 use Rattle.sm_model_commands.specs.Select.{SelectSays}
 use Rattle.sm_model_commands.specs.Forms.{graph_form}
 use Rattle.sm_commands.specs.Commands.{asked_of}
-use Rattle.sm_commands.specs.steps.FormSteps.{command_of}
+use Rattle.sm_commands.specs.steps.FormSteps.{whole_command}
 use Rattle.sm_commands.proofs.command.come_to.Goals as goal
 
 pub returns-in-Check-clause-comes : goal.returns-in-Check-clause-comes
@@ -23,7 +23,7 @@ returns-in-Check-clause-comes g c =
     (g.P.Patterns.refusals c.args.patterns.now) in
     let models = c.in-Check.words.models.now in
     subst (λ f. CommandComesTo (inputs_seen files input g.P.Patterns.test store) (inputs_seen files1 input g.P.Patterns.test store)
-    (asked_of (command_of f)) c.check.result)
+    (asked_of (whole_command f)) c.check.result)
     (sym c.in-Check.is)
     (files_come models (λ held a. CheckSays held models a) files files1 input g.P.Patterns.test store c.check.result
     c.check.ensures.held c.check.ensures.comes)
@@ -39,7 +39,7 @@ returns-in-Convert-clause-comes g c =
     (g.P.Patterns.refusals c.args.patterns.now) in
     let models = c.in-Convert.words.models.now in
     subst (λ f. CommandComesTo (inputs_seen files input g.P.Patterns.test store) (inputs_seen files1 input g.P.Patterns.test store)
-    (asked_of (command_of f)) c.convert.result)
+    (asked_of (whole_command f)) c.convert.result)
     (sym c.in-Convert.is)
     (files_come models (λ held a. ConvertSays held models (graph_form c.in-Convert.words.form) a) files files1
     input g.P.Patterns.test store c.convert.result
@@ -56,7 +56,7 @@ returns-in-Select-clause-comes g c =
     (g.P.Patterns.refusals c.args.patterns.now) in
     let models = c.in-Select.words.models.now in
     subst (λ f. CommandComesTo (inputs_seen files input g.P.Patterns.test store) (inputs_seen files1 input g.P.Patterns.test store)
-    (asked_of (command_of f)) c.select.result)
+    (asked_of (whole_command f)) c.select.result)
     (sym c.in-Select.is)
     (files_come models (λ held a. SelectSays held models c.in-Select.words.selector.now a) files files1
     input g.P.Patterns.test store c.select.result
@@ -74,5 +74,5 @@ returns-in-Schema-clause-comes g c =
     let store1 = seen_store (g.P.Patterns.added c.schema.new.patterns) (g.P.Patterns.refused c.schema.new.patterns)
     (g.P.Patterns.refusals c.schema.new.patterns) in
     subst (λ f. CommandComesTo (inputs_seen files input g.P.Patterns.test store) (inputs_seen files1 input g.P.Patterns.test store1)
-    (asked_of (command_of f)) c.schema.result)
+    (asked_of (whole_command f)) c.schema.result)
     (sym c.in-Schema.is) (c.schema.ensures.comes input)

@@ -1,4 +1,4 @@
--- What is put of what a command came to. The functions below `run` cite it; `run` itself doesn't.
+-- What is put of what a command came to.
 use Rattle.std.specs.Prelude.{◌≡◌, ℕ, ◌⊎◌, List, Result, Ok, Err}
 use Rattle.std.specs.Global.{Vec}
 use Rattle.std.specs.Io.KnownBytes.{Keeps, Appends}

@@ -1,0 +1,2 @@
+pub mod EndsPrinted
+pub mod WholeEnds

@@ -1,0 +1,9 @@
+pub mod ProtocolWords
+pub mod BehindModels
+pub mod ServicesMade
+mod ServicesNamed
+mod ServicesCompiled
+mod ServicesLoaded
+pub mod OneServiceAsked
+pub mod SomeServiceAsked
+pub mod ServiceComes

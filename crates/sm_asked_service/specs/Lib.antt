@@ -1,0 +1,5 @@
+pub mod ServiceWords
+pub mod ServiceStages
+pub mod ServiceAnswers
+pub mod LoadsService
+pub mod steps

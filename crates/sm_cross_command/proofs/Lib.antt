@@ -1,0 +1,8 @@
+mod BuiltProtocols
+pub mod CrossForms
+mod SessionsOver
+mod CrossOpened
+pub mod CrossReaches
+pub mod OneCross
+mod SomeCross
+mod CrossEnds
