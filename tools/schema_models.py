@@ -36,11 +36,6 @@ def enum_members(n):
     return idl('enum E {\n' + ''.join(f'VALUE{v}\n' for v in range(1000)) + '}\n', *thousands(n, 'E'))
 
 
-def enum_of_many(n):
-    """An enum of n / 2 values, and n / 2 members whose target it is."""
-    return idl('enum E {\n' + ''.join(f'V{v}\n' for v in range(n // 2)) + '}\n', *thousands(n // 2, 'E'))
-
-
 def choices(n):
     return idl(*thousands(n, 'Long', 'union'))
 
@@ -63,7 +58,6 @@ SCHEMAS = {
     'schema_wide': (wide, 9_999, 19_999),
     'schema_members': (members, 99_000, 198_000),
     'schema_enum_members': (enum_members, 98_000, 196_000),
-    'schema_enum_of_many': (enum_of_many, 98_000, 196_000),
     'schema_choices': (choices, 99_000, 198_000),
     'schema_patterns': (patterns, 10_000, 20_000),
     'schema_lists': (lists, 9_999, 19_999),
