@@ -1,8 +1,8 @@
 pub mod TablesMade
 mod ShapesNamed
 pub mod LoadedSpelled
-mod TablesNamed
-mod ShapesLoaded
+pub mod TablesNamed
+pub mod ShapesLoaded
 pub mod OneShape
 pub mod SomeShape
 pub mod ShapeComes

@@ -24,8 +24,8 @@ use Rattle.sm_asked_shape.specs.LoadsShape.{IsReadable, StandsBefore, LoadsShape
 use Rattle.sm_asked_shape.specs.ShapeAnswers.ShapeAnswers.{not_loaded, no_shape, pattern, unserved}
 use Rattle.sm_asked_shape.specs.ShapeStages.{TableMade}
 use Rattle.sm_asked_shape.specs.declared.shape.LoadedShape.{LoadedShape}
-use Rattle.sm_asked_shape.specs.steps.ShapeSteps.{ShapeSays, HasTableOf, MakesTable, IsUnserved, FillsShape}
-use Rattle.sm_asked_shape.specs.steps.ShapeSteps.ShapeSays.{lacks, refuses}
+use Rattle.sm_asked_shape.specs.ShapeTables.{ShapeSays, HasTableOf, MakesTable, IsUnserved, FillsShape}
+use Rattle.sm_asked_shape.specs.ShapeTables.ShapeSays.{lacks, refuses}
 
 -- a shape that isn't served
 pub unserved_stops : (one : OneShape) (test : Test) (added : List (List ℕ)) (path : List ℕ) (stop : CommandStop)

@@ -11,8 +11,8 @@ use Rattle.sm_asked.specs.Comes.{EndsWithLine, EndsWithPattern}
 use Rattle.sm_asked.specs.Lines.{no_shape_line, pattern_line}
 use Rattle.sm_asked.specs.declared.stop.CommandStop.{CommandStop}
 use Rattle.sm_asked.proofs.Stops.{line_stops, pattern_stops}
-use Rattle.sm_asked_shape.specs.steps.ShapeSteps.{ShapeSays, HasTableOf, MakesTable, IsReady}
-use Rattle.sm_asked_shape.specs.steps.ShapeSteps.ShapeSays.{lacks, refuses}
+use Rattle.sm_asked_shape.specs.ShapeTables.{ShapeSays, HasTableOf, MakesTable, IsReady}
+use Rattle.sm_asked_shape.specs.ShapeTables.ShapeSays.{lacks, refuses}
 use Rattle.sm_asked_shape.proofs.TablesMade.{number_within}
 
 -- a shape that has no table: it isn't there, or a pattern is refused

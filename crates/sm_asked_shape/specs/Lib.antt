@@ -1,5 +1,5 @@
 pub mod ShapeStages
 pub mod ShapeAnswers
 pub mod LoadsShape
+pub mod ShapeTables
 pub mod OverShape
-pub mod steps

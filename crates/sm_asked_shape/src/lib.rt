@@ -4,4 +4,4 @@
 
 mod shape;
 
-pub use shape::{LoadedShape, load_shape};
+pub use shape::{LoadedShape, filled_shape, load_shape, table_named};

@@ -12,7 +12,7 @@ ghost use Rattle.sm_compile.specs.Answers.{seen_store};
 ghost use Rattle.sm_compile.specs.Sound.{Sound};
 ghost use Rattle.sm_asked.specs.CommandAsked.{OnlyAdds};
 ghost use Rattle.sm_asked_shape.specs.LoadsShape.{IsReadable, LoadsShape};
-ghost use Rattle.sm_asked_shape.specs.steps.ShapeSteps.{FillsShape, IsReady, MakesTable};
+ghost use Rattle.sm_asked_shape.specs.ShapeTables.{FillsShape, IsReady, MakesTable};
 
 use sm_asked::{CommandStop, load_file, refused, refused_pattern};
 use sm_codec::fill_defaults;
@@ -60,8 +60,13 @@ fn compiled<P: Patterns>(
     }
 }
 
-// The table of the shape with this id in the graph, or why there is none. Each shape of a model that is loaded is sound.
-fn table_named<P: Patterns>(
+/// The table of the shape with this id in a graph, in which no default is set yet. The caller must know that the shape is sound, as each
+/// shape of a model that is loaded is. n log n in what the shape reaches.
+///
+/// # Errors
+///
+/// In this order: an id of no shape that has values; a pattern that the store refuses. At any step memory may run out.
+pub fn table_named<P: Patterns>(
     alloc: Global,
     graph: &Graph,
     shape: &str,
@@ -100,8 +105,12 @@ fn filled_table<P: Patterns>(
     }
 }
 
-// The shape with its table, where it is served.
-fn filled_shape<P: Patterns>(
+/// The shape with its table, in which the defaults that count are set now, where values of the shape are served.
+///
+/// # Errors
+///
+/// A shape whose values can't be carried; and memory may run out.
+pub fn filled_shape<P: Patterns>(
     alloc: Global,
     one: OneShape,
     patterns: &mut P,

@@ -3,7 +3,7 @@ use Rattle.sm_model.specs.GraphView.{maps_of}
 use Rattle.sm_compile.specs.Answers.{seen_store}
 use Rattle.sm_compile.specs.Sound.{Sound}
 use Rattle.sm_asked.specs.Lines.{no_shape_line}
-use Rattle.sm_asked_shape.specs.steps.ShapeSteps.{MakesTable}
+use Rattle.sm_asked_shape.specs.ShapeTables.{MakesTable}
 use Rattle.sm_asked_shape.proofs.TablesNamed.{shape_lacks}
 use Rattle.sm_asked_shape.proofs.ShapesNamed.{id_named, none_there, number_names}
 use Rattle.sm_asked_shape.proofs.shape.table_named.Goals as goal

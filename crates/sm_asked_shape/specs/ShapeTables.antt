@@ -1,4 +1,4 @@
--- What the steps of loading a shape come to.
+-- What making the table of a shape of a graph comes to, and filling its defaults where the shape is served.
 use Rattle.std.specs.Prelude.{◌≡◌, ℕ, ◌<◌, List, Result, Ok, Err}
 use Rattle.sm_model.specs.Graphs.{GraphMaps}
 use Rattle.sm_shapes.specs.DefaultPuts.{HasNoDefault}
