@@ -30,13 +30,14 @@ pub of_each : (P : CommandAsked → Type 0) → ((models : List (List ℕ)) → 
     → ((model shape : List ℕ) (near far : BodyForm) → P (body_asked model shape near far))
     → ((models : List (List ℕ)) (form : GraphForm) → P (convert_asked models form))
     → ((models : List (List ℕ)) (selector : List ℕ) → P (select_asked models selector))
-    → ((model shape : List ℕ) (json_names : Bool) → P (schema_asked model shape json_names))
+    → ((model shape : List ℕ) (json_names described : Bool) → P (schema_asked model shape json_names described))
     → ((w : CrossAsked) → P (cross_asked w)) → (command : Command) → P (asked_of command)
 of_each P check body convert select schema cross (check_command models) = check models
 of_each P check body convert select schema cross (body_command model shape near far) = body model shape near far
 of_each P check body convert select schema cross (convert_command models form) = convert models form
 of_each P check body convert select schema cross (select_command models selector) = select models selector
-of_each P check body convert select schema cross (schema_command model shape json_names) = schema model shape json_names
+of_each P check body convert select schema cross (schema_command model shape json_names described) =
+    schema model shape json_names described
 of_each P check body convert select schema cross (cross_command w) = cross w
 
 pub input_reached : InputReached
@@ -62,6 +63,6 @@ puts_whole (Select words) = over_models words.models.now (λ files a. SelectSays
 puts_whole (Schema words) = record {
   streams = refl;
   writes = refl;
-  named = schema_writes words.model.now words.shape.now words.json_names;
-  reach = schema_reaches words.model.now words.shape.now words.json_names;
+  named = schema_writes words.model.now words.shape.now words.json_names words.described;
+  reach = schema_reaches words.model.now words.shape.now words.json_names words.described;
 }

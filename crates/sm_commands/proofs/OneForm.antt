@@ -9,7 +9,7 @@ use Rattle.sm_body_command.specs.BodyWords.{IsBodyForm, form_word}
 use Rattle.sm_body_command.proofs.SideWords.{body_words_same}
 use Rattle.sm_cross_command.specs.CrossWords.{CrossAsked, IsCrossForm, words_behind}
 use Rattle.sm_cross_command.proofs.CrossForms.{cross_words_same}
-use Rattle.sm_schema_command.specs.SchemaForm.{IsSchemaForm, names_word}
+use Rattle.sm_schema_command.specs.SchemaForm.{IsSchemaForm, described_words, names_word}
 use Rattle.sm_schema_command.proofs.NamesWords.{schema_words_same}
 use Rattle.sm_commands.specs.Commands.{Command, body_command, check_command, convert_command, cross_command, schema_command, select_command}
 use Rattle.sm_commands.specs.Commands.{IsCommandForm, IsNoForm, OneCommandForm, first_word}
@@ -24,7 +24,7 @@ begins words (check_command models) h = (models, h.are)
 begins words (body_command model shape near far) h = (model ∷ shape ∷ form_word near ∷ form_word far ∷ [], h)
 begins words (convert_command models form) h = (models ++ h.last ∷ [], h.over.are)
 begins words (select_command models selector) h = (models ++ selector ∷ [], h.are)
-begins words (schema_command model shape json_names) h = (model ∷ shape ∷ names_word json_names ∷ [], h)
+begins words (schema_command model shape json_names described) h = (model ∷ shape ∷ names_word json_names ∷ described_words described, h)
 begins words (cross_command w) h = (w.models ++ words_behind w, h.are.are)
 
 first_same : (words : List (List ℕ)) (x y : Command) → IsCommandForm words x → IsCommandForm words y → first_word x ≡ first_word y
@@ -46,10 +46,12 @@ one_form words (convert_command models form) (convert_command models1 form1) h i
 one_form words (select_command models s) (select_command models1 s1) h i =
     let both = over_same words (codes "select") models models1 s s1 h i in
     ap (λ ms. select_command ms s) both.0 ∙ ap (λ x. select_command models1 x) both.1
-one_form words (schema_command model shape json_names) (schema_command model1 shape1 json_names1) h i =
-    let both = schema_words_same words model shape model1 shape1 json_names json_names1 h i in
-    ap (λ x. schema_command x shape json_names) both.same_model ∙ ap (λ x. schema_command model1 x json_names) both.same_shape
-    ∙ ap (λ x. schema_command model1 shape1 x) both.same_names
+one_form words (schema_command model shape json_names described) (schema_command model1 shape1 json_names1 described1) h i =
+    let both = schema_words_same words model shape model1 shape1 json_names described json_names1 described1 h i in
+    ap (λ x. schema_command x shape json_names described) both.same_model
+    ∙ ap (λ x. schema_command model1 x json_names described) both.same_shape
+    ∙ ap (λ x. schema_command model1 shape1 x described) both.same_names
+    ∙ ap (λ x. schema_command model1 shape1 json_names1 x) both.same_described
 one_form words (cross_command w) (cross_command v) h i = ap cross_command (cross_words_same words w v h i)
 one_form words x y h i = absurd (apart (first_word x) (first_word y) refl (first_same words x y h i))
 
@@ -58,13 +60,13 @@ pub no_form : (words : List (List ℕ)) → ((models : List (List ℕ)) → IsCh
     → ((model shape : List ℕ) (near far : BodyForm) → IsBodyForm words model shape near far → ⊥)
     → ((models : List (List ℕ)) (form : GraphForm) → IsConvertForm words models form → ⊥)
     → ((models : List (List ℕ)) (selector : List ℕ) → IsSelectForm words models selector → ⊥)
-    → ((model shape : List ℕ) (json_names : Bool) → IsSchemaForm words model shape json_names → ⊥)
+    → ((model shape : List ℕ) (json_names described : Bool) → IsSchemaForm words model shape json_names described → ⊥)
     → ((w : CrossAsked) → IsCrossForm words w → ⊥) → IsNoForm words
 no_form words no_check no_body no_convert no_select no_schema no_cross (check_command models) h = no_check models h
 no_form words no_check no_body no_convert no_select no_schema no_cross (body_command model shape near far) h =
     no_body model shape near far h
 no_form words no_check no_body no_convert no_select no_schema no_cross (convert_command models form) h = no_convert models form h
 no_form words no_check no_body no_convert no_select no_schema no_cross (select_command models selector) h = no_select models selector h
-no_form words no_check no_body no_convert no_select no_schema no_cross (schema_command model shape json_names) h =
-    no_schema model shape json_names h
+no_form words no_check no_body no_convert no_select no_schema no_cross (schema_command model shape json_names described) h =
+    no_schema model shape json_names described h
 no_form words no_check no_body no_convert no_select no_schema no_cross (cross_command w) h = no_cross w h

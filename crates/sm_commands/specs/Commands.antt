@@ -22,8 +22,8 @@ pub data Command : Type 0 where
   convert_command : (models : List (List ℕ)) → (form : GraphForm) → Command
   -- select MODEL+ SELECTOR
   select_command : (models : List (List ℕ)) → (selector : List ℕ) → Command
-  -- schema MODELFILE SHAPE NAMES
-  schema_command : (model shape : List ℕ) → (json_names : Bool) → Command
+  -- schema MODELFILE SHAPE NAMES, or schema MODELFILE SHAPE NAMES described
+  schema_command : (model shape : List ℕ) → (json_names described : Bool) → Command
   -- cross MODEL+ SERVICE FRONT BACK HOST BACKFILE OUTFILE
   cross_command : (words : CrossAsked) → Command
 
@@ -33,7 +33,7 @@ IsCommandForm words (check_command models) = IsCheckForm words models
 IsCommandForm words (body_command model shape near far) = IsBodyForm words model shape near far
 IsCommandForm words (convert_command models form) = IsConvertForm words models form
 IsCommandForm words (select_command models selector) = IsSelectForm words models selector
-IsCommandForm words (schema_command model shape json_names) = IsSchemaForm words model shape json_names
+IsCommandForm words (schema_command model shape json_names described) = IsSchemaForm words model shape json_names described
 IsCommandForm words (cross_command w) = IsCrossForm words w
 
 -- what it asks
@@ -42,7 +42,7 @@ asked_of (check_command models) = check_asked models
 asked_of (body_command model shape near far) = body_asked model shape near far
 asked_of (convert_command models form) = convert_asked models form
 asked_of (select_command models selector) = select_asked models selector
-asked_of (schema_command model shape json_names) = schema_asked model shape json_names
+asked_of (schema_command model shape json_names described) = schema_asked model shape json_names described
 asked_of (cross_command w) = cross_asked w
 
 -- its first word
@@ -51,7 +51,7 @@ first_word (check_command models) = codes "check"
 first_word (body_command model shape near far) = codes "body"
 first_word (convert_command models form) = codes "convert"
 first_word (select_command models selector) = codes "select"
-first_word (schema_command model shape json_names) = codes "schema"
+first_word (schema_command model shape json_names described) = codes "schema"
 first_word (cross_command w) = codes "cross"
 
 -- the words have the form of none

@@ -112,11 +112,12 @@ fn carry_out<F: Files, S: Source, K: Sink, P: Patterns>(
 /// the graph (7), the events that reject the model (1); it doesn't touch the input. `select MODEL+ SELECTOR` prints the ids that the
 /// selector picks in their graph, one a line (0); what `convert` refuses is refused here too, and then a text that is no selector (1).
 /// `check MODEL+` prints all events of their model, one a line (0, or 1 where one of them rejects it); else what `convert` refuses.
-/// `schema MODELFILE SHAPE NAMES` prints the JSON Schema of a shape (0), by the names of members or by their JSON names; what `body` refuses
-/// before its input is refused here too. `cross MODEL+ SERVICE FRONT BACK HOST BACKFILE OUTFILE` runs a session of a gateway over the input,
-/// whose answers are put, and over the answers of the back in BACKFILE; the requests to the back are written to OUTFILE. Its status is that of
-/// the session's end: closed (0), ended or broken off by the front or the back (1), past the most turns (7); before it the models, the service
-/// (1), a pattern that it reaches (6), a protocol whose messages aren't read yet (1) and the length of BACKFILE (7) are refused.
+/// `schema MODELFILE SHAPE NAMES` prints the JSON Schema of a shape (0), by the names of members or by their JSON names, and where
+/// `described` stands behind these words, with what the model says to people in it; what `body` refuses before its input is refused here
+/// too. `cross MODEL+ SERVICE FRONT BACK HOST BACKFILE OUTFILE` runs a session of a gateway over the input, whose answers are put, and over
+/// the answers of the back in BACKFILE; the requests to the back are written to OUTFILE. Its status is that of the session's end: closed
+/// (0), ended or broken off by the front or the back (1), past the most turns (7); before it the models, the service (1), a pattern that it
+/// reaches (6), a protocol whose messages aren't read yet (1) and the length of BACKFILE (7) are refused.
 ///
 /// 2: the words have no form, and nothing is touched. 3: a read of a file or of the input failed, and nothing is put, but by `cross` the
 /// answers to what was read. 4: the output failed, and holds a prefix of what was to be put, or OUTFILE couldn't be written. 5: memory ran out,

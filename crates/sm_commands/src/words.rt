@@ -22,7 +22,7 @@ pub enum WholeForm<'a> {
     Convert(ConvertWords<'a>),
     /// `select MODEL+ SELECTOR`.
     Select(SelectWords<'a>),
-    /// `schema MODELFILE SHAPE NAMES`.
+    /// `schema MODELFILE SHAPE NAMES`, behind which `described` may stand.
     Schema(SchemaWords<'a>),
 }
 

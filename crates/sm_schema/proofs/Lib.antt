@@ -19,4 +19,9 @@ mod PlacesEnd
 mod JoinedParts
 mod OkParts
 mod PlainTrees
+mod PlainDefaults
+mod PairsBehind
+mod NotesRead
 mod DefinitionsPut
+mod NotesHold
+mod WithNotes

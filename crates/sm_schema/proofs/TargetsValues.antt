@@ -1,5 +1,5 @@
 -- Where members have the values of their targets' enums, these needn't be compared.
-use Rattle.std.proofs.Common.{◌≡◌, ℕ, zero, suc, ℤ, true, ◌&&◌, List, [], ◌∷◌, slice_get, int_eq, sym, ap, ◌∙◌, subst}
+use Rattle.std.proofs.Common.{◌≡◌, ℕ, zero, suc, ℤ, true, ◌&&◌, List, [], ◌∷◌, slice_get, int_eq, ap, ◌∙◌, subst}
 use Rattle.std.specs.Prelude.{Some}
 use Rattle.std.specs.Cmp.Lexicographic.{pointwise, pointwise_decides}
 use Rattle.std.specs.Str.{bytes_eq}

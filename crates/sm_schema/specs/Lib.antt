@@ -4,5 +4,7 @@ pub mod Keywords
 pub mod Valid
 pub mod Definitions
 pub mod Described
+pub mod Noted
+pub mod NotesView
 pub mod SchemaLaws
 pub mod steps

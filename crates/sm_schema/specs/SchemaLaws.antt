@@ -15,7 +15,8 @@ use Rattle.sm_codec.specs.Codec.{Codec, codec_of}
 use Rattle.sm_codec.specs.Conventions.{json_convention}
 use Rattle.sm_codec.specs.Readings.{faults}
 use Rattle.sm_schema.specs.Described.{IsSchema}
-use Rattle.sm_schema.specs.Valid.{Valid}
+use Rattle.sm_schema.specs.Noted.{IsNotedSchema, NotesData}
+use Rattle.sm_schema.specs.Valid.{Valid, is_valid}
 
 abbrev pub json_codec : TableData → Bool → Test → Codec
 json_codec t json_names test = codec_of t (json_convention json_names) test
@@ -87,3 +88,20 @@ OneSchema =
 -- and each shape has one
 abbrev pub SomeSchema : Type 0
 SomeSchema = (t : TableData) (json_names : Bool) (s : ℕ) → Shaped t → s < shape_count t → (tree : Node) × IsSchema t json_names s tree
+
+-- what people read in a schema refuses nothing, and lets nothing in: with it the schema accepts what it accepts without
+abbrev pub NotesDontCount : Type 0
+NotesDontCount =
+    (t : TableData) (json_names : Bool) (notes : NotesData) (test : Test) (s : ℕ) (schema noted n : Node) → IsSchema t json_names s schema
+    → IsNotedSchema t json_names notes s noted → is_valid test noted n ≡ is_valid test schema n
+
+-- with these notes a shape has one schema too, and has one
+abbrev pub OneNotedSchema : Type 0
+OneNotedSchema =
+    (t : TableData) (json_names : Bool) (notes : NotesData) (s : ℕ) (a b : Node) → IsNotedSchema t json_names notes s a
+    → IsNotedSchema t json_names notes s b → a ≡ b
+
+abbrev pub SomeNotedSchema : Type 0
+SomeNotedSchema =
+    (t : TableData) (json_names : Bool) (notes : NotesData) (s : ℕ) → Shaped t → s < shape_count t
+    → (tree : Node) × IsNotedSchema t json_names notes s tree

@@ -1,3 +1,4 @@
 pub mod Numbered
 pub mod Joined
 pub mod Plain
+pub mod WithNotes

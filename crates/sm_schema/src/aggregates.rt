@@ -1,5 +1,5 @@
 // What the definitions of lists, maps, structures and unions say, as trees.
-ghost use Rattle.std.specs.Prelude.{◌≡◌, ◌<◌, ℕ, List, cond, IfOk, OnOk, Bool};
+ghost use Rattle.std.specs.Prelude.{◌≡◌, ◌<◌, ℕ, List, cond, IfOk, OnOk, Bool, false, true};
 ghost use Rattle.sm_tree.specs.Node.{Members, Nodes, list, member, no_members, no_nodes, node, object};
 ghost use Rattle.sm_tree.specs.Node as nodes;
 ghost use Rattle.sm_tree.specs.View.{members_view, node_of, nodes_view};
@@ -12,12 +12,16 @@ ghost use Rattle.sm_codec.specs.Codec.{InTable};
 ghost use Rattle.sm_codec.specs.Conventions.{json_name};
 ghost use Rattle.sm_codec.specs.PlaceView.{place_of};
 ghost use Rattle.sm_schema.specs.Described as the;
+ghost use Rattle.sm_schema.specs.Noted.{structure_with, union_with};
 ghost use Rattle.sm_schema.specs.steps.Joined.{joined, entries_joined};
 ghost use Rattle.sm_schema.specs.steps.Numbered.{AllMembers, AreNumbered, listing, listing_of, schema_for};
+ghost use Rattle.sm_schema.specs.steps.WithNotes.{notes_seen, schema_with};
 
+use crate::annotations::{before_member, noted};
 use crate::definitions::{nullable, nullable_if, reference};
 use crate::listing::DefinedPlaces;
 use crate::nodes::{list_of, object_of, one_pair, put, put_bound, put_entry, typed};
+use crate::notes::Notes;
 use crate::trees::{JsonEntries, JsonPairs, JsonTree, bool_tree, no_entries, no_pairs, text_tree};
 use sm_codec::ValuePlace;
 use sm_shapes::tables::Table;
@@ -123,7 +127,7 @@ fn must_stand(table: &Table, member: u32) -> bool
     row.required && row.default.is_none()
 }
 
-// The schema of a member of a structure, or of a union.
+// The reference of a member of a structure, or of a union, or null.
 fn member_schema(
     alloc: Global,
     table: &Table,
@@ -145,12 +149,39 @@ fn member_schema(
     }
 }
 
+// Its schema: the same, behind what is said of it.
+fn member_with(
+    alloc: Global,
+    table: &Table,
+    all: &DefinedPlaces,
+    json_names: bool,
+    notes: Option<&Notes<'_>>,
+    member: u32,
+    choice: bool,
+) -> Result<JsonTree, NoMemory>
+    requires shaped { Shaped (table_data table.now) }
+    requires member { member < member_count (table_data table.now) }
+    requires numbered { AreNumbered (table_data table.now) all.now }
+    ensures { IfOk result (λ tree. node_of tree.tree
+        ≡ schema_with (notes_seen notes.entry) (listing_of (table_data table.now) json_names all.now) choice member) }
+{
+    let schema = member_schema(alloc, table, all, member, choice)?;
+    match notes {
+        None => Ok(schema),
+        Some(notes) => {
+            let before = before_member(alloc, table, json_names, notes, member)?;
+            noted(before, schema)
+        }
+    }
+}
+
 // The schemas of members, each under its name.
 fn schemas_under(
     alloc: Global,
     table: &Table,
     all: &DefinedPlaces,
     json_names: bool,
+    notes: Option<&Notes<'_>>,
     members: &[u32],
     choice: bool,
 ) -> Result<JsonPairs, NoMemory>
@@ -159,11 +190,11 @@ fn schemas_under(
     requires numbered { AreNumbered (table_data table.now) all.now }
     ensures { IfOk result (λ pairs. (s : ℕ) → joined (members_view pairs.pairs.items) no_members
         ≡ the.schemas_under (listing_of (table_data table.now) json_names all.now) s
-        (schema_for (listing_of (table_data table.now) json_names all.now) choice) members.now) }
+        (schema_with (notes_seen notes.entry) (listing_of (table_data table.now) json_names all.now) choice) members.now) }
 {
     let mut pairs = no_pairs(alloc);
     for member in members {
-        let tree = member_schema(alloc, table, all, *member, choice)?;
+        let tree = member_with(alloc, table, all, json_names, notes, *member, choice)?;
         put(
             alloc,
             &mut pairs,
@@ -229,16 +260,18 @@ pub(crate) fn structure_definition(
     table: &Table,
     all: &DefinedPlaces,
     json_names: bool,
+    notes: Option<&Notes<'_>>,
     place: ValuePlace,
 ) -> Result<JsonTree, NoMemory>
     requires shaped { Shaped (table_data table.now) }
     requires inside { InTable (table_data table.now) (place_of place) }
     requires numbered { AreNumbered (table_data table.now) all.now }
     ensures { IfOk result (λ tree. node_of tree.tree
-        ≡ the.structure_definition (listing_of (table_data table.now) json_names all.now) (place_of place)) }
+        ≡ structure_with (listing_of (table_data table.now) json_names all.now) (place_of place)
+        (schema_with (notes_seen notes.entry) (listing_of (table_data table.now) json_names all.now) false)) }
 {
     let members = table.members(place.shape(table));
-    let schemas = schemas_under(alloc, table, all, json_names, members, false)?;
+    let schemas = schemas_under(alloc, table, all, json_names, notes, members, false)?;
     let names = required_names(alloc, table, json_names, members)?;
     let mut pairs = typed(alloc, "object")?;
     put(alloc, &mut pairs, "properties", object_of(schemas))?;
@@ -299,16 +332,18 @@ pub(crate) fn union_definition(
     table: &Table,
     all: &DefinedPlaces,
     json_names: bool,
+    notes: Option<&Notes<'_>>,
     place: ValuePlace,
 ) -> Result<JsonTree, NoMemory>
     requires shaped { Shaped (table_data table.now) }
     requires inside { InTable (table_data table.now) (place_of place) }
     requires numbered { AreNumbered (table_data table.now) all.now }
     ensures { IfOk result (λ tree. node_of tree.tree
-        ≡ the.union_definition (listing_of (table_data table.now) json_names all.now) (place_of place)) }
+        ≡ union_with (listing_of (table_data table.now) json_names all.now) (place_of place)
+        (schema_with (notes_seen notes.entry) (listing_of (table_data table.now) json_names all.now) true)) }
 {
     let members = table.members(place.shape(table));
-    let schemas = schemas_under(alloc, table, all, json_names, members, true)?;
+    let schemas = schemas_under(alloc, table, all, json_names, notes, members, true)?;
     let one_of = choices(alloc, table, all, json_names, members)?;
     let mut pairs = typed(alloc, "object")?;
     put(alloc, &mut pairs, "properties", object_of(schemas))?;

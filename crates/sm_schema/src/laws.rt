@@ -1,5 +1,5 @@
 // What the schema of a shape has to do with the trees that spell its values. These calls do nothing.
-ghost use Rattle.sm_schema.specs.SchemaLaws.{SpelledIsValid, ValidIsSpelled, OneSchema, SomeSchema};
+ghost use Rattle.sm_schema.specs.SchemaLaws.{SpelledIsValid, ValidIsSpelled, OneSchema, SomeSchema, NotesDontCount, OneNotedSchema, SomeNotedSchema};
 
 /// A tree that has no fault for a shape is accepted by the shape's schema.
 pub fn spelled_is_valid()
@@ -19,4 +19,19 @@ pub fn one_schema()
 /// Each shape of a table in order has a schema.
 pub fn some_schema()
     ensures { SomeSchema }
+{}
+
+/// What people read in a schema (titles, documentation, defaults) refuses no tree and lets none in.
+pub fn notes_dont_count()
+    ensures { NotesDontCount }
+{}
+
+/// With the same notes a shape has one schema too,
+pub fn one_noted_schema()
+    ensures { OneNotedSchema }
+{}
+
+/// and has one.
+pub fn some_noted_schema()
+    ensures { SomeNotedSchema }
 {}

@@ -3,11 +3,14 @@
 #![tactic(auto)]
 
 mod aggregates;
+mod annotations;
 mod definitions;
 mod describing;
 pub mod laws;
 mod listing;
 mod nodes;
+mod notes;
 mod trees;
 
-pub use describing::{schema, schema_of_compiled};
+pub use describing::{schema, schema_described, schema_of_compiled};
+pub use notes::{MemberNotes, Notes, ShapeNotes};

@@ -1,4 +1,6 @@
 pub mod NamesWords
+mod WordsCounted
+mod NotesSame
 mod Schemas
 mod CompiledValues
 mod OneSchema

@@ -13,7 +13,7 @@ sm_tool convert MODEL.. FORM
     Merges model files, and prints their graph: as a text of the JSON AST (ast), or a namespace of it in the IDL (idl:NAMESPACE).
 sm_tool cross MODEL.. SERVICE FRONT BACK HOST BACKFILE OUTFILE
     Runs a gateway between two protocols of a service: requests from standard input, answers of the back from a file.
-sm_tool schema MODELFILE SHAPE NAMES
+sm_tool schema MODELFILE SHAPE NAMES [described]
     Prints the JSON Schema of the shape, by the names of members or their JSON names: members or json.
 sm_tool select MODEL.. SELECTOR
     Prints the ids of the shapes and members that a selector picks in their graph.
@@ -103,12 +103,13 @@ status 0  the session was closed: refused requests and answers are answered in i
 ";
 
 const SCHEMA: &str = "\
-sm_tool schema MODELFILE SHAPE NAMES
+sm_tool schema MODELFILE SHAPE NAMES [described]
     Prints the JSON Schema (2020-12) of the shape: it accepts the bodies that body reads, as far as a schema can say it.
 
 MODELFILE  one model file: the JSON AST where its name ends in .json, else the IDL
 SHAPE      the id of a shape that has values, as shop#Item or smithy.api#String
 NAMES      members for the names of members, json for their JSON names (the jsonName trait)
+described  behind them: with titles, documentation, defaults and what is deprecated, which refuse nothing
 
     $ sm_tool schema shop.json smithy.api#Byte members
     {\"$schema\":\"https://json-schema.org/draft/2020-12/schema\",\"$ref\":\"#/$defs/d0\",..
@@ -159,7 +160,8 @@ pub fn usage_of(command: &str) -> &'static str {
         "convert" => "sm_tool convert MODEL.. FORM, where FORM is ast, or idl: and a namespace",
         "cross" =>
             "sm_tool cross MODEL.. SERVICE FRONT BACK HOST BACKFILE OUTFILE, where FRONT and BACK are protocols, as awsJson1_1",
-        "schema" => "sm_tool schema MODELFILE SHAPE NAMES, where NAMES is members or json",
+        "schema" =>
+            "sm_tool schema MODELFILE SHAPE NAMES [described], where NAMES is members or json",
         "select" => "sm_tool select MODEL.. SELECTOR",
         _ =>
             "sm_tool body, check, convert, cross, schema or select and its words; sm_tool --help lists them",

@@ -13,7 +13,7 @@ whole_command (Check words) = check_command words.models.now
 whole_command (Body words) = body_command words.model.now words.shape.now words.near words.far
 whole_command (Convert words) = convert_command words.models.now (graph_form words.form)
 whole_command (Select words) = select_command words.models.now words.selector.now
-whole_command (Schema words) = schema_command words.model.now words.shape.now words.json_names
+whole_command (Schema words) = schema_command words.model.now words.shape.now words.json_names words.described
 
 abbrev pub command_of : CommandForm → Command
 command_of (Whole form) = whole_command form

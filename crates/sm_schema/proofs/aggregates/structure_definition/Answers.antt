@@ -5,9 +5,10 @@ use Rattle.sm_shapes.specs.Places.{shape_of, members_of_place}
 use Rattle.sm_shapes.specs.TableData.{members_at}
 use Rattle.sm_shapes.specs.TableView.{table_data}
 use Rattle.sm_codec.specs.PlaceView.{place_of}
-use Rattle.sm_schema.specs.Described.{typed, schemas_under, member_schema, required_names, with_required}
+use Rattle.sm_schema.specs.Described.{typed, schemas_under, required_names, with_required}
 use Rattle.sm_schema.specs.steps.Joined.{entries_joined}
-use Rattle.sm_schema.specs.steps.Numbered.{listing_of, places_in, schema_for}
+use Rattle.sm_schema.specs.steps.Numbered.{listing_of, places_in}
+use Rattle.sm_schema.specs.steps.WithNotes.{notes_seen, schema_with}
 use Rattle.sm_schema.proofs.NumberedPlaces.{members_all}
 use Rattle.sm_schema.proofs.aggregates.structure_definition.Goals as goal
 
@@ -31,12 +32,13 @@ returns c =
     let p = place_of c.args.place in
     let d = listing_of t c.args.json_names c.args.all.now in
     let s = shape_of t p in
+    let o = notes_seen c.args.notes in
     let now = c.members-members.ensures ∙ ap (members_at t) c.shape.ensures in
     let names = entries_joined (nodes_view c.in_ok-names.names.entries.items) no_nodes in
-    let schemas = c.object_of.ensures ∙ ap object (c.in_ok-schemas.ensures s ∙ ap (schemas_under d s (schema_for d false)) now) in
+    let schemas = c.object_of.ensures ∙ ap object (c.in_ok-schemas.ensures s ∙ ap (schemas_under d s (schema_with o d false)) now) in
     let required = c.in_ok-names.ensures s (places_in c.args.all.now) ∙ ap (required_names d s) now in
     c.object_of-2.ensures
     ∙ ap object (c.in_ok-put_required.ensures ∙ c.in_ok-put.ensures (with_required names))
     ∙ c.in_ok-pairs.ensures (member (codes "properties") (node_of c.object_of.result.tree) (with_required names))
     ∙ ap (λ n. built n names) schemas
-    ∙ ap (built (object (schemas_under d s (member_schema d) (members_of_place t p)))) required
+    ∙ ap (built (object (schemas_under d s (schema_with o d false) (members_of_place t p)))) required

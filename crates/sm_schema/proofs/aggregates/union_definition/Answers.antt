@@ -5,8 +5,9 @@ use Rattle.sm_shapes.specs.Places.{shape_of, members_of_place}
 use Rattle.sm_shapes.specs.TableData.{members_at}
 use Rattle.sm_shapes.specs.TableView.{table_data}
 use Rattle.sm_codec.specs.PlaceView.{place_of}
-use Rattle.sm_schema.specs.Described.{typed, schemas_under, choice_schema, choices}
-use Rattle.sm_schema.specs.steps.Numbered.{listing_of, schema_for}
+use Rattle.sm_schema.specs.Described.{typed, schemas_under, choices}
+use Rattle.sm_schema.specs.steps.Numbered.{listing_of}
+use Rattle.sm_schema.specs.steps.WithNotes.{notes_seen, schema_with}
 use Rattle.sm_schema.proofs.NumberedPlaces.{members_all}
 use Rattle.sm_schema.proofs.aggregates.union_definition.Goals as goal
 
@@ -29,12 +30,13 @@ returns c =
     let p = place_of c.args.place in
     let d = listing_of t c.args.json_names c.args.all.now in
     let s = shape_of t p in
+    let o = notes_seen c.args.notes in
     let now = c.members-members.ensures ∙ ap (members_at t) c.shape.ensures in
-    let schemas = c.object_of.ensures ∙ ap object (c.in_ok-schemas.ensures s ∙ ap (schemas_under d s (schema_for d true)) now) in
+    let schemas = c.object_of.ensures ∙ ap object (c.in_ok-schemas.ensures s ∙ ap (schemas_under d s (schema_with o d true)) now) in
     let one_of = c.list_of.ensures ∙ ap list (c.in_ok-one_of.ensures s ∙ ap (choices d s) now) in
     c.object_of-2.ensures
     ∙ ap object (c.in_ok-put-2.ensures no_members ∙ c.in_ok-put.ensures (member (codes "oneOf") (node_of c.list_of.result.tree) no_members))
     ∙ c.in_ok-pairs.ensures (member (codes "properties") (node_of c.object_of.result.tree)
     (member (codes "oneOf") (node_of c.list_of.result.tree) no_members))
     ∙ ap (λ n. built n (node_of c.list_of.result.tree)) schemas
-    ∙ ap (built (object (schemas_under d s (choice_schema d) (members_of_place t p)))) one_of
+    ∙ ap (built (object (schemas_under d s (schema_with o d true) (members_of_place t p)))) one_of

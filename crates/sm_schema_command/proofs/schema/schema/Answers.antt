@@ -1,55 +1,35 @@
+use Rattle.std.proofs.Common.{sym, subst}
 use Rattle.sm_io.specs.Seen.{files_seen}
 use Rattle.sm_compile.specs.Answers.{seen_store}
-use Rattle.std.proofs.Common.{None}
-use Rattle.sm_asked.specs.Stages.{told}
-use Rattle.sm_schema_command.proofs.CompiledValues.{loaded_values}
-use Rattle.sm_schema_command.proofs.Schemas.{schema_printed, schema_short, schema_stops}
+use Rattle.sm_asked.specs.Comes.{CommandComesTo}
+use Rattle.sm_asked.specs.Outside.{inputs_seen}
+use Rattle.sm_schema_command.specs.Schema.{schema_asked}
 use Rattle.sm_schema_command.proofs.schema.schema.Goals as goal
 
-pub returns-in-Ok-schema_text-clause-comes : goal.returns-in-Ok-schema_text-clause-comes
-returns-in-Ok-schema_text-clause-comes g c = λ input.
-    schema_printed (files_seen (g.F.Files.held c.args.files.now) (g.F.Files.read_faults c.args.files.now)
-    (g.F.Files.write_faults c.args.files.now))
-    (files_seen (g.F.Files.held c.load_shape.new.files) (g.F.Files.read_faults c.load_shape.new.files)
-    (g.F.Files.write_faults c.load_shape.new.files))
-    g.P.Patterns.test
+pub returns-then-words-clause-comes : goal.returns-then-words-clause-comes
+returns-then-words-clause-comes g c = λ input.
+    subst (λ b. CommandComesTo
+    (inputs_seen (files_seen (g.F.Files.held c.args.files.now) (g.F.Files.read_faults c.args.files.now)
+    (g.F.Files.write_faults c.args.files.now)) input g.P.Patterns.test
     (seen_store (g.P.Patterns.added c.args.patterns.now) (g.P.Patterns.refused c.args.patterns.now)
-    (g.P.Patterns.refusals c.args.patterns.now))
-    (seen_store (g.P.Patterns.added c.load_shape.new.patterns) (g.P.Patterns.refused c.load_shape.new.patterns)
-    (g.P.Patterns.refusals c.load_shape.new.patterns))
-    c.args.words.model.now c.args.words.shape.now c.args.words.json_names input c.in-Ok.one c.in-Ok-schema_text.text c.in-Ok.ensures.loads
-    c.in-Ok-schema_text.ensures
+    (g.P.Patterns.refusals c.args.patterns.now)))
+    (inputs_seen (files_seen (g.F.Files.held c.described_schema.new.files) (g.F.Files.read_faults c.described_schema.new.files)
+    (g.F.Files.write_faults c.described_schema.new.files)) input g.P.Patterns.test
+    (seen_store (g.P.Patterns.added c.described_schema.new.patterns) (g.P.Patterns.refused c.described_schema.new.patterns)
+    (g.P.Patterns.refusals c.described_schema.new.patterns)))
+    (schema_asked c.args.words.model.now c.args.words.shape.now c.args.words.json_names b) c.described_schema.result)
+    (sym c.if-words.true) (c.described_schema.ensures.comes input)
 
-pub returns-in-Ok-clause-comes : goal.returns-in-Ok-clause-comes
-returns-in-Ok-clause-comes g c = λ input.
-    schema_short (files_seen (g.F.Files.held c.args.files.now) (g.F.Files.read_faults c.args.files.now)
-    (g.F.Files.write_faults c.args.files.now))
-    (files_seen (g.F.Files.held c.load_shape.new.files) (g.F.Files.read_faults c.load_shape.new.files)
-    (g.F.Files.write_faults c.load_shape.new.files))
-    g.P.Patterns.test
+pub returns-else-words-clause-comes : goal.returns-else-words-clause-comes
+returns-else-words-clause-comes g c = λ input.
+    subst (λ b. CommandComesTo
+    (inputs_seen (files_seen (g.F.Files.held c.args.files.now) (g.F.Files.read_faults c.args.files.now)
+    (g.F.Files.write_faults c.args.files.now)) input g.P.Patterns.test
     (seen_store (g.P.Patterns.added c.args.patterns.now) (g.P.Patterns.refused c.args.patterns.now)
-    (g.P.Patterns.refusals c.args.patterns.now))
-    (seen_store (g.P.Patterns.added c.load_shape.new.patterns) (g.P.Patterns.refused c.load_shape.new.patterns)
-    (g.P.Patterns.refusals c.load_shape.new.patterns))
-    c.args.words.model.now c.args.words.shape.now c.args.words.json_names input c.in-Ok.one c.in-Ok.ensures.loads
-
-pub returns-clause-comes : goal.returns-clause-comes
-returns-clause-comes g c = λ input.
-    schema_stops (files_seen (g.F.Files.held c.args.files.now) (g.F.Files.read_faults c.args.files.now)
-    (g.F.Files.write_faults c.args.files.now))
-    (files_seen (g.F.Files.held c.load_shape.new.files) (g.F.Files.read_faults c.load_shape.new.files)
-    (g.F.Files.write_faults c.load_shape.new.files))
-    g.P.Patterns.test
-    (seen_store (g.P.Patterns.added c.args.patterns.now) (g.P.Patterns.refused c.args.patterns.now)
-    (g.P.Patterns.refusals c.args.patterns.now))
-    (seen_store (g.P.Patterns.added c.load_shape.new.patterns) (g.P.Patterns.refused c.load_shape.new.patterns)
-    (g.P.Patterns.refusals c.load_shape.new.patterns))
-    c.args.words.model.now c.args.words.shape.now c.args.words.json_names input c.in-Err.stop c.load_shape.ensures.held c.in-Err.ensures.loads
-
-pub schema_text-requires-clause-values : goal.schema_text-requires-clause-values
-schema_text-requires-clause-values g c =
-    loaded_values
-    (told (g.F.Files.held c.args.files.now) None g.P.Patterns.test
-    (seen_store (g.P.Patterns.added c.args.patterns.now) (g.P.Patterns.refused c.args.patterns.now)
-    (g.P.Patterns.refusals c.args.patterns.now)) None)
-    c.args.words.model.now c.args.words.shape.now c.in-Ok.one (c.in-Ok.ensures.loads.1 None)
+    (g.P.Patterns.refusals c.args.patterns.now)))
+    (inputs_seen (files_seen (g.F.Files.held c.plain_schema.new.files) (g.F.Files.read_faults c.plain_schema.new.files)
+    (g.F.Files.write_faults c.plain_schema.new.files)) input g.P.Patterns.test
+    (seen_store (g.P.Patterns.added c.plain_schema.new.patterns) (g.P.Patterns.refused c.plain_schema.new.patterns)
+    (g.P.Patterns.refusals c.plain_schema.new.patterns)))
+    (schema_asked c.args.words.model.now c.args.words.shape.now c.args.words.json_names b) c.plain_schema.result)
+    (sym c.if-words.false) (c.plain_schema.ensures.comes input)

@@ -1,0 +1,2 @@
+mod NotesFound
+pub mod NotesNumbered

@@ -1,0 +1,2 @@
+pub mod NotesSaid
+pub mod TableShapes
