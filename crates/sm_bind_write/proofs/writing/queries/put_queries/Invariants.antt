@@ -1,0 +1,14 @@
+use Rattle.std.proofs.Common.{◌≡◌, ◌++◌, drop}
+use Rattle.sm_shapes.specs.Values.{fields_of}
+use Rattle.sm_shapes.specs.ValueView.{each_field_view}
+use Rattle.sm_bind.specs.BoundView.{bound_of}
+use Rattle.sm_bind_write.specs.WrittenParts.{written_pairs}
+use Rattle.sm_bind_write.specs.steps.FieldsMet.{FieldsReady}
+use Rattle.sm_bind_write.proofs.writing.queries.put_queries.Given as goal
+
+abbrev pub invariant-loop-field : goal.invariant-loop-field
+invariant-loop-field l = record {
+  put : l.pairs.items ++ written_pairs (bound_of l.place) (fields_of (each_field_view (drop l.field-index l.fields)))
+      ≡ l.fn.pairs.items ++ written_pairs (bound_of l.place) (fields_of (each_field_view l.fields));
+  ready : FieldsReady (bound_of l.place) (fields_of (each_field_view (drop l.field-index l.fields)));
+}

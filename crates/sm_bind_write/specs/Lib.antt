@@ -1,0 +1,5 @@
+pub mod WrittenParts
+pub mod CarriedParts
+pub mod Restrictions
+pub mod PartSpots
+pub mod steps

@@ -1,0 +1,4 @@
+pub mod SeenParts
+pub mod FieldsMet
+pub mod Naming
+pub mod FreeKeys
