@@ -1,0 +1,23 @@
+use Rattle.std.proofs.Common.{◌≡◌, drop}
+use Rattle.std.specs.List.{AllByRecursion}
+use Rattle.sm_shapes.specs.ValueView.{each_field_view}
+use Rattle.sm_messages.specs.MessageForm.{Content}
+use Rattle.sm_bind.specs.BindingsView.{parts_data}
+use Rattle.sm_bind.specs.BoundView.{bound_of}
+use Rattle.sm_bind_read.specs.steps.Coming.{IsMemberOf, PendingComes, came_of}
+use Rattle.sm_bind_read.proofs.MembersJoined.{MembersSoFar}
+use Rattle.sm_bind_read.proofs.coming.each_field.Given as goal
+
+abbrev pub invariant-loop-member : goal.invariant-loop-member
+invariant-loop-member g l = record {
+  inside : AllByRecursion (IsMemberOf (bound_of l.place)) (drop l.member-index l.members);
+  so_far : (content : Content)
+      → PendingComes (bound_of l.place) (came_of (bound_of l.place) g.P.Patterns.test (parts_data l.parts) content) l.members l.fn.pending
+      → MembersSoFar (bound_of l.place) g.P.Patterns.test (parts_data l.parts) content l.members (drop l.member-index l.members)
+      (each_field_view l.fields.items)
+      × PendingComes (bound_of l.place) (came_of (bound_of l.place) g.P.Patterns.test (parts_data l.parts) content)
+      (drop l.member-index l.members) l.left;
+  added : g.P.Patterns.added l.patterns ≡ g.P.Patterns.added l.fn.patterns;
+  refused : g.P.Patterns.refused l.patterns ≡ g.P.Patterns.refused l.fn.patterns;
+  refusals : g.P.Patterns.refusals l.patterns ≡ g.P.Patterns.refusals l.fn.patterns;
+}

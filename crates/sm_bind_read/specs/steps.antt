@@ -1,0 +1,4 @@
+pub mod Sources
+pub mod Coming
+pub mod Bodies
+pub mod Taken
