@@ -1,0 +1,3 @@
+mod DocumentsWritten
+mod PayloadsWritten
+mod StructureValues
