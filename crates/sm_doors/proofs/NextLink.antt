@@ -34,8 +34,9 @@ next_is_given f given old new x a is waits =
     let same = length-map given f in
     omega arith
 
-abbrev opened_at : Option (List ℕ) → Option (List ℕ) → ℕ → OpenedLink
-opened_at front back faults = record { front = front; back = back; faults = faults }
+abbrev opened_at : Option (List ℕ) → Option (List ℕ) → Option (List ℕ) → Option (List ℕ) → ℕ → OpenedLink
+opened_at front back answers requests faults =
+    record { front = front; back = back; answers = answers; requests = requests; faults = faults }
 
 abbrev lent_at : ℕ → ℕ → List OpenedLink → List ClosedLink → DoorsSeen
 lent_at accepted count opened closed = record {
@@ -61,7 +62,9 @@ pub next_accepted : {X : Type 0} (f : X → List ℕ × List ℕ) (given old new
 next_accepted f given old new x a n closed p asked told answered put af tf nf pf is waits small e1 g1 e2 g2 e3 g3 e4 g4 =
     let counted : a + 1 ≡ next_count a = omega arith in
     let calm : 0 ≡ af + tf + nf + pf = omega arith in
-    let same = ap (λ y. opened_at y (Some (f x).1) 0) (sym e1) ∙ ap (λ y. opened_at asked y 0) (sym e3) ∙ ap (λ y. opened_at asked answered y) calm in
+    let same = ap (λ y. opened_at y (Some (f x).1) (Some []) (Some []) 0) (sym e1)
+    ∙ ap (λ y. opened_at asked y (Some []) (Some []) 0) (sym e3) ∙ ap (λ y. opened_at asked answered y (Some []) 0) (sym e2)
+    ∙ ap (λ y. opened_at asked answered told y 0) (sym e4) ∙ ap (λ y. opened_at asked answered told put y) calm in
     let taken = ap (map given_link) (taken_is (map f given) a (f x) (map f new) (sym (ap (map f) is) ∙ waits))
     ∙ map_push given_link (take a (map f given)) (f x) ∙ ap (λ y. map given_link (take a (map f given)) ++ y ∷ []) same in (
       ap (λ y. lent_at y n (map given_link (take (a + 1) (map f given))) closed) counted ∙ ap (λ y. lent_at (next_count a) n y closed) taken,

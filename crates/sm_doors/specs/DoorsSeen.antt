@@ -6,10 +6,13 @@ use Rattle.sm_io.specs.declared.source.Failed.{Failed}
 use Rattle.sm_doors.specs.declared.doors.Phase.{Phase}
 use Rattle.sm_doors.specs.declared.doors.Phase.TheVariants.{Lent, Open}
 
--- a link when it was accepted: the bytes that its front and its back have to give, where they are told, and the sum of its counts of faults
+-- a link when it was accepted: the bytes that its front and its back have to give and those that its two sinks hold, where they are told,
+-- and the sum of its counts of faults
 pub record OpenedLink : Type 0 where
   pub front : Option (List ℕ)
   pub back : Option (List ℕ)
+  pub answers : Option (List ℕ)
+  pub requests : Option (List ℕ)
   pub faults : ℕ
 
 -- a link when it was closed: the bytes that its front was answered and its back was asked, where they are told, and the sum of its counts
@@ -36,7 +39,13 @@ abbrev pub link_faults : LinkSeen → ℕ
 link_faults link = link.front_in.faults + link.front_out.faults + link.back_in.faults + link.back_out.faults
 
 abbrev pub opened_link : LinkSeen → OpenedLink
-opened_link link = record { front = link.front_in.bytes; back = link.back_in.bytes; faults = link_faults link }
+opened_link link = record {
+  front = link.front_in.bytes;
+  back = link.back_in.bytes;
+  answers = link.front_out.bytes;
+  requests = link.back_out.bytes;
+  faults = link_faults link;
+}
 
 abbrev pub closed_link : LinkSeen → ClosedLink
 closed_link link = record { answers = link.front_out.bytes; requests = link.back_out.bytes; faults = link_faults link }

@@ -1,5 +1,5 @@
 -- What doors over memory are seen as.
-use Rattle.std.specs.Prelude.{◌≡◌, ◌<◌, ◌⊎◌, ℕ, ◌-◌, List, length, map, take, Option, None, Some, slice_get}
+use Rattle.std.specs.Prelude.{◌≡◌, ◌<◌, ◌⊎◌, ℕ, ◌-◌, List, [], length, map, take, Option, None, Some, slice_get}
 use Rattle.sm_io.specs.Memory.{sink_written, source_left}
 use Rattle.sm_io.specs.Seen.{LinkSeen, link_seen, stream}
 use Rattle.sm_io.specs.declared.memory.MemSink.{MemSink}
@@ -16,9 +16,9 @@ mem_link_seen link = link_seen
     (stream (Some (source_left link.back_in)) link.back_in.faults)
     (stream (Some (sink_written link.back_out)) link.back_out.faults)
 
--- a link that is given these bytes
+-- a link that is given these bytes, and to which nothing was put
 abbrev pub given_link : List ℕ × List ℕ → OpenedLink
-given_link bytes = record { front = Some bytes.0; back = Some bytes.1; faults = 0 }
+given_link bytes = record { front = Some bytes.0; back = Some bytes.1; answers = Some []; requests = Some []; faults = 0 }
 
 -- what all links are given, accepted or not
 abbrev pub given_links : MemDoors → List (List ℕ × List ℕ)

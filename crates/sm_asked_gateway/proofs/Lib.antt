@@ -1,0 +1,5 @@
+pub mod BuiltProtocols
+pub mod GatewayForms
+mod GatewaysMade
+pub mod OneGatewayAsked
+pub mod SomeGatewayAsked

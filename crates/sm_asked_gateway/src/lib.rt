@@ -1,0 +1,10 @@
+// What commands over a gateway share: the words for it behind model files, and the gateway of a service of these files between two
+// protocols, or what stands before it.
+#![tactic(auto)]
+
+pub mod laws;
+mod making;
+mod words;
+
+pub use making::{first_unbuilt, make_gateway};
+pub use words::{GATEWAY_WORDS, GatewayWords, gateway_words, is_host};

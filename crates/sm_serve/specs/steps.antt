@@ -1,0 +1,3 @@
+pub mod LinkSteps
+pub mod StopStatuses
+pub mod WordSteps
