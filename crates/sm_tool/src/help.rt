@@ -17,6 +17,8 @@ sm_tool schema MODELFILE SHAPE NAMES [described]
     Prints the JSON Schema of the shape, by the names of members or their JSON names: members or json.
 sm_tool select MODEL.. SELECTOR
     Prints the ids of the shapes and members that a selector picks in their graph.
+sm_tool serve MODEL.. SERVICE FRONT BACK HOST LISTEN CONNECT COUNT
+    Serves a gateway between two protocols of a service over TCP: so many connections, one after the other.
 sm_tool COMMAND --help
     Says more of a command, with an example and its statuses.
 sm_tool --help
@@ -139,6 +141,32 @@ status 0  the ids are printed, of which there may be none
        7  a limit is passed: 64 files, 4,194,304 bytes of a file, 33,554,432 of all, or one on the size of a model
 ";
 
+const SERVE: &str = "\
+sm_tool serve MODEL.. SERVICE FRONT BACK HOST LISTEN CONNECT COUNT
+    Listens, and serves connections one after the other: requests in the protocol FRONT are answered, each through one request in the
+    protocol BACK over a connection of its own to the back.
+
+MODEL        a model file: the JSON AST where its name ends in .json, else the IDL; 64 at most
+SERVICE      the id of a service of the model, as shop#Shop
+FRONT, BACK  awsJson1_0, awsJson1_1 or rpcv2Cbor; restJson1 is a word here, but no service is served in it yet
+HOST         the host that requests to the back name: 1 to 255 visible characters of ASCII
+LISTEN       the address to listen on, as 127.0.0.1:8080, [::1]:8080 or localhost:0 (a port of 0 is chosen, and told on standard error)
+CONNECT      the address of the back
+COUNT        how many connections are served: 1 to 1,000,000
+
+    $ sm_tool serve shop.smithy shop#Shop awsJson1_1 rpcv2Cbor back.example 127.0.0.1:8080 127.0.0.1:9000 1000000
+
+Nothing is printed. A back that can't be reached, and one that fails, is told of in a line on standard error, and serving goes on.
+docs/OPERATIONS.md says how long it waits for whom, and how several processes serve behind a proxy.
+
+status 0  all connections were served
+       1  the model, the service or a protocol is refused: cross says why
+       2  the words have no form            3  a file can't be read, the address can't be listened on, or no connection comes any more
+       5  memory ran out
+       6  a pattern of the service is no regular expression that is known here
+       7  a limit on the models is passed
+";
+
 /// What a command says of itself.
 pub fn help_of(command: &str) -> Option<&'static str> {
     match command {
@@ -148,6 +176,7 @@ pub fn help_of(command: &str) -> Option<&'static str> {
         "cross" => Some(CROSS),
         "schema" => Some(SCHEMA),
         "select" => Some(SELECT),
+        "serve" => Some(SERVE),
         _ => None,
     }
 }
@@ -163,7 +192,9 @@ pub fn usage_of(command: &str) -> &'static str {
         "schema" =>
             "sm_tool schema MODELFILE SHAPE NAMES [described], where NAMES is members or json",
         "select" => "sm_tool select MODEL.. SELECTOR",
+        "serve" =>
+            "sm_tool serve MODEL.. SERVICE FRONT BACK HOST LISTEN CONNECT COUNT, where FRONT and BACK are protocols, as awsJson1_1",
         _ =>
-            "sm_tool body, check, convert, cross, schema or select and its words; sm_tool --help lists them",
+            "sm_tool body, check, convert, cross, schema, select or serve and its words; sm_tool --help lists them",
     }
 }

@@ -6,13 +6,17 @@ mod help;
 mod place;
 mod rules;
 mod sentence;
+mod served;
 mod told;
 
 use heard::{Heard, Noted};
 use help::{HELP, VERSION, help_of};
 use sentence::{file_told, line_told, read_fault, sentence, usage, write_fault};
+use served::{NO_GATEWAY, doors_fault, is_serve};
 use sm_commands::{Status, run};
+use sm_doors::{DoorsFault, TcpDoors};
 use sm_io::{DiskFiles, Files, StdSink, StdSource};
+use sm_serve::serve;
 use sm_shapes::RegexPatterns;
 use sm_tree::{NoMemory, Text};
 use std::alloc::Global;
@@ -221,11 +225,47 @@ fn answer(rt: &HostRuntime, words: &[Text]) -> u8 {
     status
 }
 
+// What is said on standard error for a status of `serve`.
+fn said_of_serving(
+    rt: &HostRuntime,
+    alloc: Global,
+    words: &[Text],
+    status: u8,
+    failed: Option<&str>,
+    fault: Option<DoorsFault>,
+) -> Result<Option<String>, NoMemory> {
+    match (status, failed, fault) {
+        (1 | 6 | 7, _, _) => Ok(Some(String::from_str(alloc, NO_GATEWAY)?)),
+        (3, None, Some(fault)) => Ok(Some(doors_fault(alloc, words, fault)?)),
+        _ => said(rt, alloc, words, status, failed, None, &[]),
+    }
+}
+
+// Serves links over TCP.
+fn serve_tcp(rt: &HostRuntime, words: &[Text]) -> u8 {
+    let alloc = rt.alloc();
+    let mut files = Noted::new(alloc, DiskFiles::new(alloc, *rt));
+    let mut doors = TcpDoors::new(*rt);
+    let mut patterns = RegexPatterns::new(alloc);
+    let status = serve(alloc, words, &mut files, &mut doors, &mut patterns);
+    complain(
+        rt,
+        said_of_serving(rt, alloc, words, status, files.failed(), doors.fault()),
+    );
+    status
+}
+
 fn main(rt: HostRuntime) -> ExitCode {
     let status = match given_words(&rt, rt.alloc()) {
         Ok(words) => match asked_text(words.as_slice()) {
             Some(text) => show(&rt, text),
-            None => answer(&rt, words.as_slice()),
+            None => {
+                if is_serve(words.as_slice()) {
+                    serve_tcp(&rt, words.as_slice())
+                } else {
+                    answer(&rt, words.as_slice())
+                }
+            }
         },
         Err(status) => {
             complain(
