@@ -22,14 +22,15 @@ use Rattle.sm_asked_service.specs.LoadsService.{CanBeServed, LoadsService, Stand
 use Rattle.sm_asked_service.specs.ServiceAnswers.{ServiceAnswers}
 use Rattle.sm_gateway.specs.GatewayData.{GatewayData, ServesBoth}
 use Rattle.sm_gateway.specs.GatewayView.{gateway_data}
-use Rattle.sm_cross_command.specs.Cross.{CrossAnswers, unbuilt_line}
+use Rattle.sm_asked_gateway.specs.GatewayAnswers.{unbuilt_line}
+use Rattle.sm_asked_gateway.specs.GatewayStages.{first_unbuilt}
+use Rattle.sm_asked_gateway.proofs.BuiltProtocols.{serves_both}
+use Rattle.sm_cross_command.specs.Cross.{CrossAnswers}
 use Rattle.sm_cross_command.specs.Cross.CrossAnswers.{not_made, unbuilt, long_back}
-use Rattle.sm_cross_command.specs.CrossStages.{first_unbuilt}
 use Rattle.sm_cross_command.specs.CrossWords.{CrossAsked}
 use Rattle.sm_cross_command.specs.declared.cross.Opened.{Opened}
 use Rattle.sm_cross_command.specs.steps.CrossSteps.{BackSays, IsOpened, IsOpenedCross, OpensCross, OpensService}
 use Rattle.sm_cross_command.specs.steps.CrossSteps.BackSays.{without, beyond}
-use Rattle.sm_cross_command.proofs.BuiltProtocols.{serves_both}
 
 -- a protocol that isn't built
 pub unbuilt_stops : (files files1 : FilesSeen) (w : CrossAsked) (s : ServiceData) (protocol : Protocol) (stop : CommandStop)

@@ -1,4 +1,3 @@
-mod BuiltProtocols
 pub mod CrossForms
 mod SessionsOver
 mod CrossOpened

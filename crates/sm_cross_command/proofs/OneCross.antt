@@ -20,12 +20,14 @@ use Rattle.sm_asked_service.proofs.ServicesMade.{served_with, service_ready}
 use Rattle.sm_gateway.specs.GatewayData.{GatewayData, ServesBoth}
 use Rattle.sm_gateway.specs.GatewayTurns.{Session}
 use Rattle.sm_gateway.specs.Laws.{OneSession}
-use Rattle.sm_cross_command.specs.Cross.{CrossAnswers, CrossSays, cross_asked, requests_file, session_answer, unbuilt_line}
+use Rattle.sm_asked_gateway.specs.GatewayAnswers.{unbuilt_line}
+use Rattle.sm_asked_gateway.specs.GatewayStages.{first_unbuilt}
+use Rattle.sm_asked_gateway.proofs.BuiltProtocols.{serves_both}
+use Rattle.sm_cross_command.specs.Cross.{CrossAnswers, CrossSays, cross_asked, requests_file, session_answer}
 use Rattle.sm_cross_command.specs.Cross.CrossAnswers.{not_made, unbuilt, long_back}
 use Rattle.sm_cross_command.specs.Cross.CrossSays.{not_opened, session}
-use Rattle.sm_cross_command.specs.CrossStages.{CrossOpens, first_unbuilt, gateway_of}
+use Rattle.sm_cross_command.specs.CrossStages.{CrossOpens, gateway_of}
 use Rattle.sm_cross_command.specs.CrossWords.{CrossAsked}
-use Rattle.sm_cross_command.proofs.BuiltProtocols.{serves_both}
 
 -- a session that may begin is one of a gateway that serves
 pub opens_serves : StaysServable → (t : Told) (w : CrossAsked) (o : CrossOpens t w) → ServesBoth (gateway_of t w o) t.test

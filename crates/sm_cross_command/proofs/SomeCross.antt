@@ -17,10 +17,12 @@ use Rattle.sm_asked.specs.Stages.{Told, IsInput}
 use Rattle.sm_asked_service.specs.ServiceStages.{ServiceMade}
 use Rattle.sm_asked_service.proofs.SomeServiceAsked.{service_answered}
 use Rattle.sm_gateway.specs.Laws.{SomeSession}
-use Rattle.sm_cross_command.specs.Cross.{CrossSays, cross_asked, requests_file, session_answer, unbuilt_line}
+use Rattle.sm_asked_gateway.specs.GatewayAnswers.{unbuilt_line}
+use Rattle.sm_asked_gateway.specs.GatewayStages.{first_unbuilt}
+use Rattle.sm_cross_command.specs.Cross.{CrossSays, cross_asked, requests_file, session_answer}
 use Rattle.sm_cross_command.specs.Cross.CrossAnswers.{not_made, unbuilt, long_back}
 use Rattle.sm_cross_command.specs.Cross.CrossSays.{not_opened, session}
-use Rattle.sm_cross_command.specs.CrossStages.{CrossOpens, first_unbuilt, gateway_of}
+use Rattle.sm_cross_command.specs.CrossStages.{CrossOpens, gateway_of}
 use Rattle.sm_cross_command.specs.CrossWords.{CrossAsked}
 use Rattle.sm_cross_command.proofs.OneCross.{opens_serves}
 

@@ -1,14 +1,13 @@
 -- What the command `cross` comes to, over bytes alone. The decisions stand in their order: those of the service, which are the model files,
 -- the service and its patterns; whether messages of its protocols are read; the length of the back's file. Then the session of the input
 -- and of that file: its answers are put, its requests are written, and its end is the status. No line is printed once it began.
-use Rattle.std.specs.Prelude.{◌≡◌, ℕ, true, List, [], ◌∷◌, ◌++◌, None, Some, codes}
+use Rattle.std.specs.Prelude.{◌≡◌, ℕ, true, List, [], ◌∷◌, ◌++◌, None, Some}
 use Rattle.sm_http.specs.declared.message.Protocol.{Protocol}
 use Rattle.sm_session.specs.Sessions.{SessionSaid, flat}
 use Rattle.sm_session.specs.declared.session_end.SessionEnd.{SessionEnd}
 use Rattle.sm_session.specs.declared.session_end.SessionEnd.TheVariants.{Closed, Quota, FrontEnded, BackEnded, FrontFraming, BackFraming}
 use Rattle.sm_session.specs.declared.session_end.SessionEnd.TheVariants.{FrontRead, FrontWrite, BackRead, BackWrite}
 use Rattle.sm_session.specs.declared.session_end.SessionEnd.TheVariants.{NoMemory as out_of_memory}
-use Rattle.sm_lines.specs.Lines.{line}
 use Rattle.sm_asked.specs.Answer.{Answer, Came, FileWritten, came, came_writing, past, refused}
 use Rattle.sm_asked.specs.Answer.InputUse.{in_part, untouched}
 use Rattle.sm_asked.specs.CommandAsked.{CommandAsked}
@@ -18,14 +17,11 @@ use Rattle.sm_asked.specs.declared.status.Status.{Status}
 use Rattle.sm_asked.specs.declared.status.Status.TheVariants.{Done, Limit, NoMemory, ReadFault, Refused, WriteFault}
 use Rattle.sm_asked_service.specs.ServiceAnswers.{ServiceAnswers}
 use Rattle.sm_asked_service.specs.ServiceStages.{ServiceMade}
-use Rattle.sm_asked_service.specs.ServiceWords.{protocol_word}
 use Rattle.sm_gateway.specs.GatewayTurns.{Session}
-use Rattle.sm_cross_command.specs.CrossStages.{CrossOpens, first_unbuilt, gateway_of}
+use Rattle.sm_asked_gateway.specs.GatewayAnswers.{unbuilt_line}
+use Rattle.sm_asked_gateway.specs.GatewayStages.{first_unbuilt}
+use Rattle.sm_cross_command.specs.CrossStages.{CrossOpens, gateway_of}
 use Rattle.sm_cross_command.specs.CrossWords.{CrossAsked}
-
--- messages of a protocol aren't read yet
-abbrev pub unbuilt_line : Protocol → List ℕ
-unbuilt_line protocol = line (codes "Unbuilt") (protocol_word protocol)
 
 -- the status of a session's end
 abbrev pub end_status : SessionEnd → Status

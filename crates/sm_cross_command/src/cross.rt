@@ -14,7 +14,6 @@ ghost use Rattle.sm_asked_ends.specs.AskedEnds.{AskedEnds};
 ghost use Rattle.sm_gateway.specs.GatewayData.{IsHost, ServesBoth};
 ghost use Rattle.sm_gateway.specs.GatewayView.{gateway_data};
 ghost use Rattle.sm_cross_command.specs.Cross.{cross_asked};
-ghost use Rattle.sm_cross_command.specs.CrossStages.{first_unbuilt as the_first_unbuilt};
 ghost use Rattle.sm_cross_command.specs.CrossView.{cross_said};
 ghost use Rattle.sm_cross_command.specs.steps.CrossSteps.{OpensCross, OpensService, RunsAndWrites};
 
@@ -22,12 +21,11 @@ use crate::status::status_after;
 use crate::words::CrossWords;
 use sm_asked::{CommandStop, Status, limit_line, past, refused};
 use sm_asked_ends::print_stop;
+use sm_asked_gateway::first_unbuilt;
 use sm_asked_service::{load_service, protocol_word};
 use sm_gateway::{Gateway, serve_session};
-use sm_http::Protocol;
 use sm_io::{CalmSink, CalmSource, FileRefusal, Files, Sink, Source};
 use sm_lines::line;
-use sm_protocols::is_built;
 use sm_service::Service;
 use sm_shapes::Patterns;
 use sm_tree::NoMemory;
@@ -41,19 +39,6 @@ const FILE_LIMIT: u64 = 4_194_304;
 struct Opened {
     gateway: Gateway,
     back: Vec<u8>,
-}
-
-// The first of two protocols whose messages aren't read yet.
-fn first_unbuilt(front: Protocol, back: Protocol) -> Option<Protocol>
-    ensures { result ≡ the_first_unbuilt front back }
-{
-    if !is_built(front) {
-        return Some(front);
-    }
-    if !is_built(back) {
-        return Some(back);
-    }
-    None
 }
 
 // The bytes that the back answers, or the line of a file that is too long.

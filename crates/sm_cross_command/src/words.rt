@@ -1,10 +1,9 @@
 // The words of `cross`.
-ghost use Rattle.std.specs.Prelude.{◌≡◌, ◌↔◌, IsTrue, MatchOption};
-ghost use Rattle.std.specs.List.{list_all};
-ghost use Rattle.sm_gateway.specs.GatewayData.{IsHost, is_visible as is_visible_byte};
+ghost use Rattle.std.specs.Prelude.{MatchOption};
 ghost use Rattle.sm_cross_command.specs.CrossView.{cross_said};
 ghost use Rattle.sm_cross_command.specs.CrossWords.{CrossAsked, IsCrossForm};
 
+use sm_asked_gateway::is_host;
 use sm_asked_service::{models_before, protocol_named};
 use sm_http::Protocol;
 use sm_tree::Text;
@@ -59,24 +58,4 @@ pub fn cross_words(words: &[Text]) -> Option<CrossWords<'_>>
         back_file: behind[4].as_str(),
         out_file: behind[5].as_str(),
     })
-}
-
-// Whether a word may name a host.
-fn is_host(word: &str) -> bool
-    ensures { IsTrue result ↔ IsHost word.now }
-{
-    let bytes = word.as_bytes();
-    !bytes.is_empty() && bytes.len() < 256 && are_visible(bytes)
-}
-
-fn are_visible(bytes: &[u8]) -> bool
-    ensures { result ≡ list_all is_visible_byte bytes.now }
-{
-    bytes.iter().all(|byte| is_visible(*byte))
-}
-
-fn is_visible(byte: u8) -> bool
-    ensures { result ≡ is_visible_byte byte }
-{
-    33 <= byte && byte <= 126
 }

@@ -27,8 +27,10 @@ use Rattle.sm_asked_service.specs.LoadsService.{StopsBefore}
 use Rattle.sm_gateway.specs.GatewayData.{GatewayData}
 use Rattle.sm_gateway.specs.GatewayTurns.{Session}
 use Rattle.sm_gateway.specs.GatewayView.{gateway_data}
-use Rattle.sm_cross_command.specs.Cross.{CrossAnswers, end_status, unbuilt_line}
-use Rattle.sm_cross_command.specs.CrossStages.{CrossOpens, first_unbuilt, gateway_of}
+use Rattle.sm_asked_gateway.specs.GatewayAnswers.{unbuilt_line}
+use Rattle.sm_asked_gateway.specs.GatewayStages.{first_unbuilt}
+use Rattle.sm_cross_command.specs.Cross.{CrossAnswers, end_status}
+use Rattle.sm_cross_command.specs.CrossStages.{CrossOpens, gateway_of}
 use Rattle.sm_cross_command.specs.CrossWords.{CrossAsked}
 use Rattle.sm_cross_command.specs.declared.cross.Opened.{Opened}
 

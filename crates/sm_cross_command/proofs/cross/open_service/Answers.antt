@@ -1,9 +1,9 @@
 use Rattle.std.proofs.Common.{sym}
 use Rattle.sm_io.specs.Seen.{files_seen}
 use Rattle.sm_service.specs.ServiceView.{service_data}
-use Rattle.sm_cross_command.specs.Cross.{unbuilt_line}
+use Rattle.sm_asked_gateway.specs.GatewayAnswers.{unbuilt_line}
+use Rattle.sm_asked_gateway.proofs.BuiltProtocols.{back_serves, front_serves}
 use Rattle.sm_cross_command.specs.CrossView.{cross_said}
-use Rattle.sm_cross_command.proofs.BuiltProtocols.{back_serves, front_serves}
 use Rattle.sm_cross_command.proofs.CrossOpened.{back_stops, unbuilt_stops}
 use Rattle.sm_cross_command.proofs.cross.open_service.Goals as goal
 
