@@ -1,5 +1,5 @@
 -- Words that tell of a gateway: one reading of them, and words that aren't.
-use Rattle.std.proofs.Common.{◌≡◌, ◌≤◌, ◌+◌, ℕ, List, [], ◌∷◌, ◌++◌, drop, length, refl, sym, ap, subst, ◌∙◌, arith}
+use Rattle.std.proofs.Common.{◌≡◌, ◌≤◌, ◌+◌, ℕ, List, [], ◌∷◌, ◌++◌, drop, length, sym, ap, subst, ◌∙◌, arith}
 use Rattle.std.specs.Prelude.{get_or}
 use Rattle.sm_http.specs.declared.message.Protocol.{Protocol}
 use Rattle.sm_asked_service.specs.ServiceWords.{AreBehindModels, protocol_word}

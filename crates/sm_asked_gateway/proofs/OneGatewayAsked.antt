@@ -1,5 +1,5 @@
 -- Files and a store come to one answer before a gateway, or to one gateway: at each decision two go the same way.
-use Rattle.std.proofs.Common.{◌≡◌, ℕ, List, Some, None, sym, ap, ◌∙◌}
+use Rattle.std.proofs.Common.{◌≡◌, Some, None, sym, ap, ◌∙◌}
 use Rattle.std.proofs.lemmas.Option.{same_Some}
 use Rattle.sm_codec.specs.Defaults.{filled}
 use Rattle.sm_load.specs.Laws.{ReadyModels}

@@ -1,10 +1,10 @@
 -- The link that comes next of those that are given.
-use Rattle.std.proofs.Common.{◌≡◌, ◌<◌, ◌≤◌, ℕ, ◌+◌, ◌-◌, ◌^◌, List, [], ◌∷◌, ◌++◌, drop, length, map, take, Option, None, Some, ap, sym, ◌∙◌, arith, get_or, refl}
+use Rattle.std.proofs.Common.{◌≡◌, ◌<◌, ◌≤◌, ℕ, ◌+◌, ◌-◌, ◌^◌, List, [], ◌∷◌, ◌++◌, drop, length, map, take, Option, Some, ap, sym, ◌∙◌, arith, get_or}
 use Rattle.std.proofs.lemmas.List.{drop_more, length-drop, length-map, take_more}
 use Rattle.std.proofs.lemmas.List.{map_push}
 use Rattle.sm_io.specs.Causes.{next_count}
-use Rattle.sm_io.specs.Seen.{LinkSeen, link_seen, stream}
-use Rattle.sm_doors.specs.DoorsSeen.{ClosedLink, DoorsSeen, IsUnwritten, OpenedLink, behind_accept, opened_link}
+use Rattle.sm_io.specs.Seen.{link_seen, stream}
+use Rattle.sm_doors.specs.DoorsSeen.{ClosedLink, DoorsSeen, IsUnwritten, OpenedLink, behind_accept}
 use Rattle.sm_doors.specs.MemSeen.{given_link}
 use Rattle.sm_doors.specs.declared.doors.Phase.{Phase}
 use Rattle.sm_doors.specs.declared.doors.Phase.TheVariants.{Lent}

@@ -1,5 +1,5 @@
 -- Which one of a list has a number.
-use Rattle.std.proofs.Common.{◌≡◌, ◌<◌, ◌⊎◌, ℕ, ◌-◌, List, length, map, Option, None, Some, ap, subst, sym, ◌∙◌, inl, inr}
+use Rattle.std.proofs.Common.{◌<◌, ℕ, ◌-◌, List, map, Option, None, Some, ap, subst, sym, ◌∙◌, inl, inr}
 use Rattle.std.proofs.lemmas.Option.{slice_get-map}
 use Rattle.std.specs.Prelude.{option_map}
 use Rattle.std.proofs.lemmas.List.{length-map}

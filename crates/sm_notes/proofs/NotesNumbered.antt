@@ -1,5 +1,5 @@
 -- What is said of the shapes of a table and of their members is said by their numbers; two numberings of one shape say the same.
-use Rattle.std.proofs.Common.{◌≡◌, ℕ, List, map, ap, sym, ◌∙◌}
+use Rattle.std.proofs.Common.{ℕ, List, map, ap, sym, ◌∙◌}
 use Rattle.std.specs.Cmp.Lexicographic.{nat_list_cmp_total}
 use Rattle.std.specs.List.{flat_map}
 use Rattle.sm_model.specs.Graphs.{GraphMaps}

@@ -1,5 +1,5 @@
 -- Two tables of a shape have the same notes.
-use Rattle.std.proofs.Common.{◌≡◌, ℕ, List, [], ◌∷◌, ap, subst, ◌∙◌}
+use Rattle.std.proofs.Common.{ℕ, List, [], ◌∷◌, subst, ◌∙◌}
 use Rattle.sm_model.specs.Graphs.{GraphMaps}
 use Rattle.sm_compile.specs.Compiled.{IsCompiled}
 use Rattle.sm_compile.specs.Reached.{IsReached}

@@ -1,9 +1,8 @@
 -- Links that were served, one after the other: none, one more, and the status behind them.
-use Rattle.std.proofs.Common.{◌≡◌, ◌≤◌, ◌<◌, ◌+◌, ℕ, zero, suc, Bool, true, false, List, [], ◌∷◌, ◌++◌, Option, None, Some, length}
+use Rattle.std.proofs.Common.{◌≡◌, ◌≤◌, ◌+◌, ℕ, zero, suc, Bool, true, false, List, [], ◌∷◌, ◌++◌, Option, None, Some}
 use Rattle.std.proofs.Common.{refl, sym, ap, subst, ◌∙◌, arith, length-append}
-use Rattle.std.specs.Prelude.{IfSome, IsSomeAnd, Result, Ok, Err}
 use Rattle.std.proofs.lemmas.List.{append-nil, append_assoc}
-use Rattle.sm_io.specs.Causes.{Rose, last_count, next_count}
+use Rattle.sm_io.specs.Causes.{last_count, next_count}
 use Rattle.sm_io.specs.Seen.{LinkSeen}
 use Rattle.sm_shapes.specs.Fitting.{Test}
 use Rattle.sm_doors.specs.DoorsSeen.{ClosedLink, DoorsSeen, LinksSeen, OpenedLink, behind_accept, behind_close, closed_link, opened_link}
@@ -17,7 +16,7 @@ use Rattle.sm_asked.specs.declared.status.Status.{Status}
 use Rattle.sm_asked.specs.declared.status.Status.TheVariants.{Done, Refused, Usage, ReadFault, WriteFault, Pattern, Limit}
 use Rattle.sm_asked.specs.declared.status.Status.TheVariants.{NoMemory as ends_by_memory}
 use Rattle.sm_gateway.specs.GatewayData.{GatewayData}
-use Rattle.sm_serve.specs.Links.{EachLink, HasServed, LinksEnd, MoreServed, PutsAll, PutsPart, ServesLinks, TellsServed, risen}
+use Rattle.sm_serve.specs.Links.{EachLink, HasServed, LinksEnd, PutsAll, PutsPart, ServesLinks, TellsServed, risen}
 use Rattle.sm_serve.specs.steps.LinkSteps.{ServesLink, all_status, short_after}
 use Rattle.sm_serve.proofs.SessionsPut.{all_put, part_put}
 

@@ -1,5 +1,5 @@
 -- What a session that was run has put to its link.
-use Rattle.std.proofs.Common.{◌≡◌, ◌≤◌, ◌+◌, ℕ, Bool, true, false, List, Option, None, Some, refl, true≢false, arith}
+use Rattle.std.proofs.Common.{◌≡◌, ◌≤◌, ◌+◌, ℕ, Bool, false, List, Option, None, Some, true≢false, arith}
 use Rattle.sm_io.specs.Causes.{Quiet}
 use Rattle.sm_io.specs.Seen.{LinkSeen}
 use Rattle.sm_io.proofs.Counts.{quiet_not_rose}

@@ -8,7 +8,6 @@ use Rattle.sm_asked.specs.Answer.{Answer, code_of}
 use Rattle.sm_asked.specs.declared.status.Status.{Status}
 use Rattle.sm_asked.specs.declared.status.Status.TheVariants.{Done, Refused, Usage, ReadFault, WriteFault, NoMemory, Pattern, Limit}
 use Rattle.sm_asked_service.specs.LoadsService.{StandsBefore}
-use Rattle.sm_gateway.specs.GatewayData.{GatewayData}
 use Rattle.sm_gateway.specs.GatewayView.{gateway_data}
 use Rattle.sm_gateway.specs.declared.gateway.Gateway.{Gateway}
 use Rattle.sm_asked_gateway.specs.GatewayAnswers.{GatewayAnswers}

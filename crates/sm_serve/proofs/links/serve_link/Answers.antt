@@ -1,4 +1,3 @@
-use Rattle.sm_io.specs.Seen.{link_seen, stream}
 use Rattle.sm_serve.proofs.links.serve_link.Goals as goal
 
 pub returns-clause-link : goal.returns-clause-link

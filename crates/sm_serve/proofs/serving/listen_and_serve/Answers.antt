@@ -1,4 +1,4 @@
-use Rattle.std.proofs.Common.{inl, inr, ap, refl, subst, ◌∙◌}
+use Rattle.std.proofs.Common.{inl, inr, ap, refl, subst}
 use Rattle.sm_doors.specs.DoorsSeen.{DoorsSeen}
 use Rattle.sm_gateway.specs.GatewayView.{gateway_data}
 use Rattle.sm_serve.specs.Links.{ServesLinks}

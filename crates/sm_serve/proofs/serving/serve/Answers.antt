@@ -1,4 +1,4 @@
-use Rattle.std.proofs.Common.{inl, inr, refl, subst, ◌∙◌}
+use Rattle.std.proofs.Common.{inl, inr, refl}
 use Rattle.sm_io.specs.Seen.{files_seen}
 use Rattle.sm_compile.specs.Answers.{seen_store}
 use Rattle.sm_gateway.specs.GatewayView.{gateway_data}
