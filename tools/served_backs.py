@@ -123,6 +123,9 @@ class Back:
     idle     the connection is closed behind the first answer, which doesn't say so
     early    answers stand there before the request's body is read
     closes   each answer says `connection: close`, and is the last
+    fails    each request is answered with the error `Full`
+    strays   each answer has a count that is no number
+    twice    each answer is sent twice
     """
 
     def __init__(self, protocol, way='serves', family=socket.AF_INET):
@@ -165,10 +168,15 @@ class Back:
             self.requests += 1
             if self.way == 'hangs':
                 continue
-            note = value_of(self.protocol, body).get('note') or ''
-            stream.sendall(answer(self.protocol, {'count': len(note)}, closes=self.way == 'closes'))
+            stream.sendall(self.answer(body) * (2 if self.way == 'twice' else 1))
             if self.way in ('idle', 'closes'):
                 return
+
+    def answer(self, body):
+        if self.way == 'fails':
+            return answer(self.protocol, {'__type': 'shop#Full', 'message': 'no room'}, '400 Bad Request')
+        note = value_of(self.protocol, body).get('note') or ''
+        return answer(self.protocol, {'count': 'many' if self.way == 'strays' else len(note)}, closes=self.way == 'closes')
 
     def close(self):
         try:

@@ -24,6 +24,13 @@ structure PutItemOutput { count: Integer }
 structure Full { message: String }
 '''
 MOST = 1_000_000
+CHECKS = []
+
+
+def check(function):
+    CHECKS.append(function)
+    return function
+
 
 
 class Wrong(Exception):
@@ -36,7 +43,7 @@ def same(seen, wanted, what='answer'):
 
 
 class Server:
-    """The program, listening on a port that the system chose."""
+    """The program, listening on a port that the system chose, or on one that is named, for which nobody waits."""
 
     program = model = None
 
@@ -46,13 +53,19 @@ class Server:
             [self.program, 'serve', self.model, 'shop#Shop', front, back, 'back.example', listen, connect, str(count)],
             stdin=subprocess.DEVNULL, stdout=subprocess.PIPE, stderr=subprocess.PIPE, text=True)
         self.told = []
+        self.host, self.port = listen.rsplit(':', 1)[0].strip('[]'), int(listen.rsplit(':', 1)[1])
+        if self.port == 0:
+            self.hear_port(hosts)
+        threading.Thread(target=self.hear, daemon=True).start()
+
+    def hear_port(self, hosts):
+        """Where it listens, on a port that the system chose: its first line."""
         line = self.process.stderr.readline()
         found = re.fullmatch(r'listening on (.*):(\d+)\n', line)
         if not found or found[1] not in hosts:
             self.stop()
             raise Wrong(f'says {line!r} and not where it listens')
         self.host, self.port = found[1].strip('[]'), int(found[2])
-        threading.Thread(target=self.hear, daemon=True).start()
 
     def hear(self):
         for line in self.process.stderr:
