@@ -2,6 +2,7 @@
 import contextlib
 import json
 import re
+import signal
 import socket
 import struct
 import subprocess
@@ -42,6 +43,11 @@ def same(seen, wanted, what='answer'):
         raise Wrong(f'{what}: {seen!r}, not {wanted!r}')
 
 
+def heeds_signals():
+    # a shell has what it runs in the background ignore SIGINT, and whoever is begun there too
+    signal.signal(signal.SIGINT, signal.SIG_DFL)
+
+
 class Server:
     """The program, listening on a port that the system chose, or on one that is named, for which nobody waits."""
 
@@ -51,7 +57,7 @@ class Server:
         self.front = front
         self.process = subprocess.Popen(
             [self.program, 'serve', self.model, 'shop#Shop', front, back, 'back.example', listen, connect, str(count)],
-            stdin=subprocess.DEVNULL, stdout=subprocess.PIPE, stderr=subprocess.PIPE, text=True)
+            stdin=subprocess.DEVNULL, stdout=subprocess.PIPE, stderr=subprocess.PIPE, text=True, preexec_fn=heeds_signals)
         self.told = []
         self.host, self.port = listen.rsplit(':', 1)[0].strip('[]'), int(listen.rsplit(':', 1)[1])
         if self.port == 0:
