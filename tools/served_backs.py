@@ -3,7 +3,8 @@ import json
 import socket
 import threading
 
-TYPES = {'awsJson1_0': 'application/x-amz-json-1.0', 'awsJson1_1': 'application/x-amz-json-1.1', 'rpcv2Cbor': 'application/cbor'}
+TYPES = {'awsJson1_0': 'application/x-amz-json-1.0', 'awsJson1_1': 'application/x-amz-json-1.1', 'restJson1': 'application/json',
+         'rpcv2Cbor': 'application/cbor'}
 
 
 def cbor_head(kind, number):
@@ -16,13 +17,17 @@ def cbor_head(kind, number):
 
 
 def cbor(value):
-    """The CBOR of a value of null, booleans, whole numbers, texts, lists and objects."""
+    """The CBOR of a value of null, booleans, whole numbers, bytes, texts, lists, objects, and of a tag with its content."""
     if value is None:
         return b'\xf6'
     if isinstance(value, bool):
         return b'\xf5' if value else b'\xf4'
     if isinstance(value, int):
         return cbor_head(0, value) if value >= 0 else cbor_head(1, -1 - value)
+    if isinstance(value, bytes):
+        return cbor_head(2, len(value)) + value
+    if isinstance(value, tuple):
+        return cbor_head(6, value[0]) + cbor(value[1])
     if isinstance(value, str):
         text = value.encode()
         return cbor_head(3, len(text)) + text
@@ -32,7 +37,7 @@ def cbor(value):
 
 
 def of_cbor(text, at=0):
-    """A value in CBOR that begins here, and where it ends: definite lengths alone, as the gateway writes them."""
+    """A value in CBOR that begins here, and where it ends: definite lengths alone, as the gateway writes them; a tag with its content."""
     kind, short = text[at] >> 5, text[at] & 31
     at += 1
     if kind == 7:
@@ -46,6 +51,8 @@ def of_cbor(text, at=0):
         return number, at
     if kind == 1:
         return -1 - number, at
+    if kind == 2:
+        return text[at:at + number], at + number
     if kind == 3:
         return text[at:at + number].decode(), at + number
     if kind == 4:
@@ -54,9 +61,14 @@ def of_cbor(text, at=0):
             entry, at = of_cbor(text, at)
             entries.append(entry)
         return entries, at
+    if kind == 6:
+        content, at = of_cbor(text, at)
+        return (number, content), at
     pairs = {}
     for _ in range(number):
         key, at = of_cbor(text, at)
+        if key in pairs:
+            raise ValueError(f'{key} stands twice')
         pairs[key], at = of_cbor(text, at)
     return pairs, at
 

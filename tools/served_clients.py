@@ -85,17 +85,21 @@ def botocore_client(folder, front, url):
     """A client of the shop in this protocol, made as those of AWS are: from a description of the service."""
     import botocore.config
     import botocore.session
-    protocol = {'protocol': 'smithy-rpc-v2-cbor', 'protocols': ['smithy-rpc-v2-cbor']} if front == 'rpcv2Cbor' else {
-        'protocol': 'json', 'protocols': ['json'], 'jsonVersion': front[-3:].replace('_', '.'), 'targetPrefix': 'Shop'}
+    spoken = {'rpcv2Cbor': 'smithy-rpc-v2-cbor', 'restJson1': 'rest-json'}.get(front, 'json')
+    protocol = {'protocol': spoken, 'protocols': [spoken]}
+    if spoken == 'json':
+        protocol |= {'jsonVersion': front[-3:].replace('_', '.'), 'targetPrefix': 'Shop'}
+    asked = {'method': 'PUT', 'requestUri': '/items/{id}'} if front == 'restJson1' else {'method': 'POST', 'requestUri': '/'}
+    bound = {'location': 'uri', 'locationName': 'id'} if front == 'restJson1' else {}
     text, number = {'type': 'string'}, {'type': 'integer'}
     model = {
         'version': '2.0',
         'metadata': {'apiVersion': '2026-01-01', 'endpointPrefix': 'shop', 'serviceId': 'Shop', 'serviceFullName': 'Shop',
                      'signatureVersion': 'v4', 'uid': 'shop-2026-01-01', **protocol},
-        'operations': {'PutItem': {'name': 'PutItem', 'http': {'method': 'POST', 'requestUri': '/'}, 'input': {'shape': 'PutItemInput'},
+        'operations': {'PutItem': {'name': 'PutItem', 'http': asked, 'input': {'shape': 'PutItemInput'},
                                    'output': {'shape': 'PutItemOutput'}, 'errors': [{'shape': 'Full'}]}},
         'shapes': {'PutItemInput': {'type': 'structure', 'required': ['id'],
-                                    'members': {'id': {'shape': 'Text'}, 'note': {'shape': 'Text'}}},
+                                    'members': {'id': {'shape': 'Text', **bound}, 'note': {'shape': 'Text'}}},
                    'PutItemOutput': {'type': 'structure', 'members': {'count': {'shape': 'Count'}}},
                    'Full': {'type': 'structure', 'members': {'message': {'shape': 'Text'}}, 'exception': True},
                    'Text': text, 'Count': number}}
@@ -140,12 +144,17 @@ def meet_an_error(client, behind):
 @check
 def botocore_asks_in_json():
     ask_with_botocore('awsJson1_0', ('rpcv2Cbor', 'awsJson1_1'))
-    ask_with_botocore('awsJson1_1', ('awsJson1_0', 'rpcv2Cbor'))
+    ask_with_botocore('awsJson1_1', ('awsJson1_0', 'restJson1', 'rpcv2Cbor'))
 
 
 @check
 def botocore_asks_in_cbor():
-    ask_with_botocore('rpcv2Cbor', ('awsJson1_1', 'awsJson1_0'))
+    ask_with_botocore('rpcv2Cbor', ('awsJson1_1', 'awsJson1_0', 'restJson1'))
+
+
+@check
+def botocore_asks_in_rest():
+    ask_with_botocore('restJson1', ('awsJson1_1', 'rpcv2Cbor', 'restJson1'))
 
 
 def lacks_curl(_):

@@ -15,9 +15,10 @@ namespace shop
 
 service Shop { version: "2026-01-01" operations: [PutItem] }
 
+@http(method: "PUT", uri: "/items/{id}")
 operation PutItem { input: PutItemInput output: PutItemOutput errors: [Full] }
 
-structure PutItemInput { @required id: String note: String }
+structure PutItemInput { @required @httpLabel id: String note: String }
 
 structure PutItemOutput { count: Integer }
 

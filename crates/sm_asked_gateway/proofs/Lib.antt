@@ -1,5 +1,5 @@
-pub mod BuiltProtocols
-pub mod GatewayForms
 mod GatewaysMade
-pub mod OneGatewayAsked
-pub mod SomeGatewayAsked
+pub mod GatewayForms
+pub mod LoadedServices
+mod OneGatewayAsked
+mod SomeGatewayAsked

@@ -4,4 +4,3 @@ pub mod GatewayStages
 pub mod GatewayAnswers
 pub mod MakesGateway
 pub mod Laws
-pub mod steps

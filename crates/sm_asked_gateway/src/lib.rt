@@ -6,5 +6,5 @@ pub mod laws;
 mod making;
 mod words;
 
-pub use making::{first_unbuilt, make_gateway};
+pub use making::make_gateway;
 pub use words::{GATEWAY_WORDS, GatewayWords, gateway_words, is_host};

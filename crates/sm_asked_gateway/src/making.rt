@@ -4,67 +4,26 @@ ghost use Rattle.sm_io.specs.Files.{LetsSame};
 ghost use Rattle.sm_io.specs.Seen.{files_seen};
 ghost use Rattle.sm_shapes.specs.InOrder.{AreStored};
 ghost use Rattle.sm_compile.specs.Answers.{seen_store};
-ghost use Rattle.sm_service.specs.Servable.{Servable};
-ghost use Rattle.sm_service.specs.ServiceView.{service_data};
 ghost use Rattle.sm_asked.specs.CommandAsked.{OnlyAdds};
 ghost use Rattle.sm_gateway.specs.GatewayData.{IsHost, ServesBoth};
-ghost use Rattle.sm_gateway.specs.GatewayView.{gateway_data};
-ghost use Rattle.sm_asked_gateway.specs.GatewayStages.{first_unbuilt as the_first_unbuilt};
+ghost use Rattle.sm_gateway.specs.GatewayView.{KeepsBoth, gateway_data};
 ghost use Rattle.sm_asked_gateway.specs.GatewayView.{gateway_asked};
 ghost use Rattle.sm_asked_gateway.specs.MakesGateway.{MakesGateway};
-ghost use Rattle.sm_asked_gateway.specs.steps.GatewaySteps.{JoinsService};
 
 use crate::words::GatewayWords;
-use sm_asked::{CommandStop, refused};
-use sm_asked_service::{load_service, protocol_word};
+use sm_asked::CommandStop;
+use sm_asked_service::load_service;
 use sm_gateway::Gateway;
-use sm_http::Protocol;
 use sm_io::Files;
-use sm_lines::line;
-use sm_protocols::is_built;
-use sm_service::Service;
 use sm_shapes::Patterns;
 use sm_tree::NoMemory;
 use std::alloc::Global;
-
-/// The first of two protocols whose messages aren't read yet.
-pub fn first_unbuilt(front: Protocol, back: Protocol) -> Option<Protocol>
-    ensures { result ≡ the_first_unbuilt front back }
-{
-    if !is_built(front) {
-        return Some(front);
-    }
-    if !is_built(back) {
-        return Some(back);
-    }
-    None
-}
-
-// A gateway of the service, or why there is none.
-fn join_service(
-    alloc: Global,
-    words: GatewayWords<'_>,
-    service: Service,
-) -> Result<Gateway, CommandStop>
-    requires servable { Servable (service_data service) }
-    requires host { IsHost words.host.now }
-    ensures { JoinsService (gateway_asked words.entry) (service_data service) result }
-{
-    match first_unbuilt(words.front, words.back) {
-        Some(protocol) => Err(refused(line(alloc, "Unbuilt", protocol_word(protocol)))),
-        None => match Gateway::new(alloc, service, words.front, words.back, words.host) {
-            Ok(gateway) => Ok(gateway),
-            Err(NoMemory) => Err(CommandStop::NoMemory),
-        },
-    }
-}
 
 /// The gateway that the words tell of: of the service with this id in the model of these model files, between these protocols.
 ///
 /// # Errors
 ///
-/// In this order: those of `load_service`; a protocol whose messages aren't read yet, the front's before the back's. At any step memory may
-/// run out.
+/// Those of `load_service`. At any step memory may run out.
 pub fn make_gateway<F: Files, P: Patterns>(
     alloc: Global,
     words: GatewayWords<'_>,
@@ -79,6 +38,7 @@ pub fn make_gateway<F: Files, P: Patterns>(
         P.test (seen_store (P.added patterns.old) (P.refused patterns.old) (P.refusals patterns.old))
         (seen_store (P.added patterns.new) (P.refused patterns.new) (P.refusals patterns.new)) (gateway_asked words.entry) result }
     ensures serves { IfOk result (λ gateway. ServesBoth (gateway_data gateway) P.test) }
+    ensures kept { IfOk result KeepsBoth }
     ensures stored { IfOk result (λ gateway. AreStored (gateway_data gateway).service.table.patterns (P.added patterns.new)) }
     ensures held { F.held files.new ≡ F.held files.old }
     ensures read_faults { F.read_faults files.old ≤ F.read_faults files.new }
@@ -87,8 +47,12 @@ pub fn make_gateway<F: Files, P: Patterns>(
     ensures same_writes { LetsSame (F.lets_write files.old) (F.lets_write files.new) }
     ensures added { OnlyAdds (P.added patterns.old) (P.added patterns.new) }
 {
+    sm_rest::laws::target_texts();
     match load_service(alloc, files, words.models, words.service, patterns) {
-        Ok(service) => join_service(alloc, words, service),
+        Ok(service) => match Gateway::new(alloc, service, words.front, words.back, words.host) {
+            Ok(gateway) => Ok(gateway),
+            Err(NoMemory) => Err(CommandStop::NoMemory),
+        },
         Err(stop) => Err(stop),
     }
 }

@@ -5,4 +5,4 @@ mod document;
 mod payload;
 mod written;
 
-pub use written::written_body;
+pub use written::{raw_body, written_body};

@@ -1,5 +1,5 @@
 // Payloads: raw bytes, or trees.
-ghost use Rattle.std.specs.Prelude.{◌≡◌, ◌<◌, [], IfOk, true};
+ghost use Rattle.std.specs.Prelude.{◌≡◌, ◌<◌, [], ℕ, IfOk, IfSome, true};
 ghost use Rattle.sm_json.specs.Written as json;
 ghost use Rattle.sm_shapes.specs.Fitting.{Fits, any_text};
 ghost use Rattle.sm_shapes.specs.InOrder.{Shaped};
@@ -10,6 +10,7 @@ ghost use Rattle.sm_shapes.specs.ValueView.{each_field_view, val_of};
 ghost use Rattle.sm_codec.specs.Conventions.{json_convention};
 ghost use Rattle.sm_codec.specs.Written.{uncarried, written};
 ghost use Rattle.sm_bind.specs.BoundView.{bound_of};
+ghost use Rattle.sm_bind.specs.Roles.{Bound};
 ghost use Rattle.sm_bind_write.specs.CarriedParts.{uncarried_payload};
 ghost use Rattle.sm_bind_write.specs.WrittenParts.{payload_among, payload_content};
 ghost use Rattle.sm_bind_write.specs.steps.FieldsMet.{FieldsReady};
@@ -39,6 +40,39 @@ pub(crate) fn payload_bytes(
         }
     }
     Ok(Vec::new(alloc))
+}
+
+/// The bytes of the payload among these fields, where they stand in its value as they are: those of a text or a blob. No memory.
+pub(crate) fn raw_payload<'v>(
+    place: &BoundPlace<'_>,
+    fields: &'v [(u32, Value)],
+) -> Option<&'v [u8]>
+    ensures { IfSome result (λ bytes. content_bytes (payload_among (bound_of place.now) (fields_of (each_field_view fields.now)))
+        ≡ bytes.now) }
+{
+    for field in fields {
+        if is_payload_at(place.table, field.0) {
+            return raw_bytes(&field.1);
+        }
+    }
+    None
+}
+
+fn raw_bytes(value: &Value) -> Option<&[u8]>
+    ensures { IfSome result (λ bytes. (b : Bound) (k : ℕ) → content_bytes (payload_content b k (val_of value.now)) ≡ bytes.now) }
+{
+    match value {
+        Value::Text(text) => Some(text.as_str().as_bytes()),
+        Value::Blob(bytes) => Some(bytes.as_slice()),
+        Value::Null => None,
+        Value::Bool(_) => None,
+        Value::Int(_) => None,
+        Value::Time(_) => None,
+        Value::List(_) => None,
+        Value::Map(_) => None,
+        Value::Structure(_) => None,
+        Value::Union(_, _) => None,
+    }
 }
 
 fn bytes_of(

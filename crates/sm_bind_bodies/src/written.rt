@@ -1,5 +1,5 @@
 // The body of a message.
-ghost use Rattle.std.specs.Prelude.{◌≡◌, ◌<◌, [], IfOk};
+ghost use Rattle.std.specs.Prelude.{◌≡◌, ◌<◌, [], IfOk, IfSome};
 ghost use Rattle.sm_shapes.specs.Fitting.{Fits, any_text};
 ghost use Rattle.sm_shapes.specs.InOrder.{Shaped};
 ghost use Rattle.sm_shapes.specs.Places.{root_place};
@@ -12,7 +12,7 @@ ghost use Rattle.sm_bind_write.specs.WrittenParts.{written_content};
 ghost use Rattle.sm_bind_bodies.specs.WrittenBodies.{content_bytes};
 
 use crate::document::document_bytes;
-use crate::payload::payload_bytes;
+use crate::payload::{payload_bytes, raw_payload};
 use sm_bind::{BoundPlace, has_document};
 use sm_bind_write::fields_in;
 use sm_shapes::values::Value;
@@ -43,4 +43,17 @@ pub fn written_body(
     } else {
         payload_bytes(alloc, place, fields)
     }
+}
+
+/// The bytes of the body that is written for a value, where they stand in it as they are: those of a payload that is a text or a blob. No
+/// memory.
+pub fn raw_body<'v>(place: &BoundPlace<'_>, value: &'v Value) -> Option<&'v [u8]>
+    requires { place.now.shape < shape_count (bound_of place.now).table }
+    ensures { IfSome result (λ bytes. content_bytes (written_content (bound_of place.now) (val_of value.now)) ≡ bytes.now) }
+{
+    let members = place.table.members(place.shape);
+    if has_document(place.table, place.side, members) {
+        return None;
+    }
+    raw_payload(place, fields_in(value))
 }

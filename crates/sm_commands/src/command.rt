@@ -117,11 +117,11 @@ fn carry_out<F: Files, S: Source, K: Sink, P: Patterns>(
 /// too. `cross MODEL+ SERVICE FRONT BACK HOST BACKFILE OUTFILE` runs a session of a gateway over the input, whose answers are put, and over
 /// the answers of the back in BACKFILE; the requests to the back are written to OUTFILE. Its status is that of the session's end: closed
 /// (0), ended or broken off by the front or the back (1), past the most turns (7); before it the models, the service (1), a pattern that it
-/// reaches (6), a protocol whose messages aren't read yet (1) and the length of BACKFILE (7) are refused.
+/// reaches (6) and the length of BACKFILE (7) are refused.
 ///
 /// 2: the words have no form, and nothing is touched. 3: a read of a file or of the input failed, and nothing is put, but by `cross` the
-/// answers to what was read. 4: the output failed, and holds a prefix of what was to be put, or OUTFILE couldn't be written. 5: memory ran out,
-/// and nothing is put, but by `cross` a prefix.
+/// answers to what was read. 4: the output failed, and holds a prefix of what was to be put, or OUTFILE couldn't be written. 5: memory ran
+/// out, and nothing is put, but by `cross` a prefix.
 /// 3 and 4 come only where that object's count of faults rose, and 6 only where the store's count of refusals did. To the store patterns
 /// are only added.
 pub fn run<F: Files, S: Source, K: Sink, P: Patterns>(

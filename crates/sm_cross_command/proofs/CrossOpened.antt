@@ -1,4 +1,4 @@
--- What opening a session comes to, from what its service, its protocols and the back's file come to.
+-- What opening a session comes to, from what its service and the back's file come to.
 use Rattle.std.proofs.Common.{◌≡◌, ◌≤◌, ℕ, List, Option, Some, None, Ok, Err, ap, sym, subst, ◌∙◌, refl, arith}
 use Rattle.std.specs.Prelude.{Result, IfOk}
 use Rattle.sm_io.specs.Causes.{Rose}
@@ -6,46 +6,27 @@ use Rattle.sm_io.specs.Files.{Holds}
 use Rattle.sm_io.specs.Seen.{FilesSeen}
 use Rattle.sm_shapes.specs.Fitting.{Test}
 use Rattle.sm_shapes.specs.InOrder.{AreStored}
-use Rattle.sm_http.specs.declared.message.Protocol.{Protocol}
 use Rattle.sm_compile.specs.Answers.{StoreSeen}
 use Rattle.sm_service.specs.ServiceData.{ServiceData}
 use Rattle.sm_service.specs.ServiceView.{service_data}
 use Rattle.sm_service.specs.declared.service.Service.{Service}
 use Rattle.sm_asked.specs.Answer.{Answer}
-use Rattle.sm_asked.specs.Comes.{EndsWithLine}
-use Rattle.sm_asked.specs.Stages.{FileTooLong}
+use Rattle.sm_asked.specs.Stages.{FileTooLong, told}
 use Rattle.sm_asked.specs.declared.stop.CommandStop.{CommandStop}
-use Rattle.sm_asked.specs.steps.FileSteps.{OpensFile, PassesLimit}
+use Rattle.sm_asked.specs.steps.FileSteps.{PassesLimit}
 use Rattle.sm_asked.proofs.Answered.{none_is_some}
-use Rattle.sm_asked.proofs.Stops.{line_stops, stops_map}
+use Rattle.sm_asked.proofs.Stops.{stops_map}
 use Rattle.sm_asked_service.specs.LoadsService.{CanBeServed, LoadsService, StandsBefore}
 use Rattle.sm_asked_service.specs.ServiceAnswers.{ServiceAnswers}
 use Rattle.sm_gateway.specs.GatewayData.{GatewayData, ServesBoth}
 use Rattle.sm_gateway.specs.GatewayView.{gateway_data}
-use Rattle.sm_asked_gateway.specs.GatewayAnswers.{unbuilt_line}
-use Rattle.sm_asked_gateway.specs.GatewayStages.{first_unbuilt}
-use Rattle.sm_asked_gateway.proofs.BuiltProtocols.{serves_both}
+use Rattle.sm_rest.specs.Laws.{TargetTextsWhereJson}
+use Rattle.sm_asked_gateway.proofs.LoadedServices.{loaded_serves}
 use Rattle.sm_cross_command.specs.Cross.{CrossAnswers}
-use Rattle.sm_cross_command.specs.Cross.CrossAnswers.{not_made, unbuilt, long_back}
+use Rattle.sm_cross_command.specs.Cross.CrossAnswers.{not_made, long_back}
 use Rattle.sm_cross_command.specs.CrossWords.{CrossAsked}
 use Rattle.sm_cross_command.specs.declared.cross.Opened.{Opened}
-use Rattle.sm_cross_command.specs.steps.CrossSteps.{BackSays, IsOpened, IsOpenedCross, OpensCross, OpensService}
-use Rattle.sm_cross_command.specs.steps.CrossSteps.BackSays.{without, beyond}
-
--- a protocol that isn't built
-pub unbuilt_stops : (files files1 : FilesSeen) (w : CrossAsked) (s : ServiceData) (protocol : Protocol) (stop : CommandStop)
-    → first_unbuilt w.front w.back ≡ Some protocol → EndsWithLine (unbuilt_line protocol) stop → OpensService files files1 w s (Err stop)
-unbuilt_stops files files1 w s protocol stop is ends =
-    line_stops (BackSays files.held w) (Rose files.read_faults files1.read_faults) (Unit {0}) (unbuilt_line protocol) stop
-    (without protocol is refl) tt ends
-
--- a back that can't be read
-pub back_stops : (files files1 : FilesSeen) (w : CrossAsked) (s : ServiceData) (stop : CommandStop) → first_unbuilt w.front w.back ≡ None
-    → OpensFile files files1 w.back_file (Err stop) → OpensService files files1 w s (Err stop)
-back_stops files files1 w s stop built h =
-    stops_map (PassesLimit files.held w.back_file) (BackSays files.held w) (Rose files.read_faults files1.read_faults)
-    (Rose files.read_faults files1.read_faults) (Unit {0}) (Unit {0}) stop (λ a says. beyond built says.0 says.1) (λ rose. rose)
-    (λ short. short) h
+use Rattle.sm_cross_command.specs.steps.CrossSteps.{IsOpened, IsOpenedCross, OpensCross, OpensService}
 
 -- a service that isn't there
 pub service_stops : (files files1 : FilesSeen) (test : Test) (store store1 : StoreSeen) (w : CrossAsked) (stop : CommandStop)
@@ -65,18 +46,12 @@ gateway_with w s = record { service = s; front = w.front; back = w.back; host = 
 module _ (files files1 files2 : FilesSeen) (test : Test) (store store1 : StoreSeen) (w : CrossAsked) (made : Service)
     (loads : LoadsService files files1 test store store1 w.models w.service (Ok made)) (held : files1.held ≡ files.held)
     (later : files.read_faults ≤ files1.read_faults) where
-  back_says : (a : Answer) → BackSays files1.held w a → StandsBefore (λ t a. CrossAnswers t w a) files test store store1 a
-  back_says a (without protocol is e) = record {
+  back_says : (a : Answer) → PassesLimit files1.held w.back_file a → StandsBefore (λ t a. CrossAnswers t w a) files test store store1 a
+  back_says a (long, e) = record {
     pattern = None;
     by = loads.0;
     only = λ u n. none_is_some u n;
-    says = λ input. unbuilt (loads.1 input).made protocol is e;
-  }
-  back_says a (beyond built long e) = record {
-    pattern = None;
-    by = loads.0;
-    only = λ u n. none_is_some u n;
-    says = λ input. long_back (loads.1 input).made built (subst (λ f. FileTooLong f w.back_file) held long) e;
+    says = λ input. long_back (loads.1 input).made (subst (λ f. FileTooLong f w.back_file) held long) e;
   }
 
   is_opened : (o : Opened) → IsOpened files1.held w (service_data made) o → (input : Option (List ℕ))
@@ -86,7 +61,6 @@ module _ (files files1 files2 : FilesSeen) (test : Test) (store store1 : StoreSe
       record {
         opens = record {
           made = l.made;
-          built = h.built;
           back = record {
             bytes = o.back.items;
             held = subst (λ f. Holds f w.back_file (Some o.back.items)) held h.held;
@@ -101,22 +75,24 @@ module _ (files files1 files2 : FilesSeen) (test : Test) (store store1 : StoreSe
       → OpensCross files files2 test store store1 w result
   cross_opens (Ok o) h = (loads.0, is_opened o h)
   cross_opens (Err stop) h =
-      stops_map (BackSays files1.held w) (StandsBefore (λ t a. CrossAnswers t w a) files test store store1)
+      stops_map (PassesLimit files1.held w.back_file) (StandsBefore (λ t a. CrossAnswers t w a) files test store store1)
       (Rose files1.read_faults files2.read_faults) (Rose files.read_faults files2.read_faults × (store1.refusals ≡ store.refusals))
       (Unit {0}) (Unit {0}) stop back_says (λ rose. (rose_on rose, loads.0)) (λ short. short) h
     where
       rose_on : Rose files1.read_faults files2.read_faults → Rose files.read_faults files2.read_faults
       rose_on rose = omega (arith, later, rose)
 
--- the gateway of a service that can be served serves, and its patterns are stored
-module _ (files files1 : FilesSeen) (w : CrossAsked) (s : ServiceData) (test : Test) (added : List (List ℕ))
-    (served : CanBeServed s test added) where
-  pub opened_serves : (result : Result Opened CommandStop) → OpensService files files1 w s result
-      → IfOk result (λ o. ServesBoth (gateway_data o.gateway) test)
-  opened_serves (Ok o) h = subst (λ g. ServesBoth g test) (sym h.gateway) (serves_both s w.front w.back w.host test added h.built served)
-  opened_serves (Err stop) h = tt
+  -- the gateway serves, and its patterns are stored
+  module _ (added : List (List ℕ)) (served : CanBeServed (service_data made) test added) where
+    pub opened_serves : TargetTextsWhereJson → (result : Result Opened CommandStop)
+        → OpensService files1 files2 w (service_data made) result → IfOk result (λ o. ServesBoth (gateway_data o.gateway) test)
+    opened_serves texts (Ok o) h =
+        subst (λ g. ServesBoth g test) (sym h.gateway)
+        (loaded_serves texts (told files.held None test store None) w.models w.service (service_data made) (loads.1 None) added served
+        w.front w.back w.host)
+    opened_serves texts (Err stop) h = tt
 
-  pub opened_stored : (result : Result Opened CommandStop) → OpensService files files1 w s result
-      → IfOk result (λ o. AreStored (gateway_data o.gateway).service.table.patterns added)
-  opened_stored (Ok o) h = subst (λ (g : GatewayData). AreStored g.service.table.patterns added) (sym h.gateway) served.stored
-  opened_stored (Err stop) h = tt
+    pub opened_stored : (result : Result Opened CommandStop) → OpensService files1 files2 w (service_data made) result
+        → IfOk result (λ o. AreStored (gateway_data o.gateway).service.table.patterns added)
+    opened_stored (Ok o) h = subst (λ (g : GatewayData). AreStored g.service.table.patterns added) (sym h.gateway) served.stored
+    opened_stored (Err stop) h = tt

@@ -1,15 +1,13 @@
 -- Files, an input and a store that are told come to one session, or to one answer before it.
-use Rattle.std.proofs.Common.{◌≡◌, ℕ, List, Some, None, sym, ap, subst, ◌∙◌}
-use Rattle.std.proofs.lemmas.Option.{same_Some}
+use Rattle.std.proofs.Common.{◌≡◌, ℕ, List, Some, refl, sym, ap, subst, ◌∙◌}
 use Rattle.sm_io.specs.Files.{Folder, Holds}
 use Rattle.sm_codec.specs.Defaults.{filled}
 use Rattle.sm_load.specs.Laws.{ReadyModels}
-use Rattle.sm_http.specs.declared.message.Protocol.{Protocol}
 use Rattle.sm_service.specs.Filled.{over_table}
 use Rattle.sm_service.specs.Laws.{OneService, StaysServable}
 use Rattle.sm_service.specs.ServiceData.{ServiceData}
 use Rattle.sm_session.specs.Sessions.{SessionSaid, turn_limit}
-use Rattle.sm_asked.specs.Answer.{Answer, Came, came, came_writing, refused}
+use Rattle.sm_asked.specs.Answer.{Answer, Came, came, came_writing}
 use Rattle.sm_asked.specs.Answer.InputUse.{in_part, untouched}
 use Rattle.sm_asked.specs.AskedLaws.{ComesToOne, TellsAll}
 use Rattle.sm_asked.specs.Stages.{Told, FileRead, FileTooLong, IsInput}
@@ -20,22 +18,24 @@ use Rattle.sm_asked_service.proofs.ServicesMade.{served_with, service_ready}
 use Rattle.sm_gateway.specs.GatewayData.{GatewayData, ServesBoth}
 use Rattle.sm_gateway.specs.GatewayTurns.{Session}
 use Rattle.sm_gateway.specs.Laws.{OneSession}
-use Rattle.sm_asked_gateway.specs.GatewayAnswers.{unbuilt_line}
-use Rattle.sm_asked_gateway.specs.GatewayStages.{first_unbuilt}
-use Rattle.sm_asked_gateway.proofs.BuiltProtocols.{serves_both}
+use Rattle.sm_rest.specs.Laws.{TargetTextsWhereJson}
+use Rattle.sm_asked_service.specs.ServiceStages.{service_of}
+use Rattle.sm_asked_gateway.proofs.LoadedServices.{loaded_serves}
 use Rattle.sm_cross_command.specs.Cross.{CrossAnswers, CrossSays, cross_asked, requests_file, session_answer}
-use Rattle.sm_cross_command.specs.Cross.CrossAnswers.{not_made, unbuilt, long_back}
+use Rattle.sm_cross_command.specs.Cross.CrossAnswers.{not_made, long_back}
 use Rattle.sm_cross_command.specs.Cross.CrossSays.{not_opened, session}
 use Rattle.sm_cross_command.specs.CrossStages.{CrossOpens, gateway_of}
 use Rattle.sm_cross_command.specs.CrossWords.{CrossAsked}
 
 -- a session that may begin is one of a gateway that serves
-pub opens_serves : StaysServable → (t : Told) (w : CrossAsked) (o : CrossOpens t w) → ServesBoth (gateway_of t w o) t.test
-opens_serves stays t w o =
+pub opens_serves : StaysServable → TargetTextsWhereJson → (t : Told) (w : CrossAsked) (o : CrossOpens t w)
+    → ServesBoth (gateway_of t w o) t.test
+opens_serves stays texts t w o =
     let m = o.made in
-    let g = m.there.loaded.graph in
-    serves_both (over_table m.one (filled m.one.table t.test)) w.front w.back w.host t.test m.now.added o.built
-    (served_with m.one t.test m.now.added stays (service_ready g w.service t.test t.store m.now m.one m.compiled))
+    loaded_serves texts t w.models w.service (service_of t w.models w.service m) (record { made = m; is = refl }) m.now.added
+    (served_with m.one t.test m.now.added stays
+    (service_ready m.there.loaded.graph w.service t.test t.store m.now m.one m.compiled))
+    w.front w.back w.host
 
 module _ (ones : OneService) (ready : ReadyModels) (t : Told) (folder : Folder) (input : List ℕ) (all : TellsAll t folder input)
     (w : CrossAsked) where
@@ -66,38 +66,29 @@ module _ (ones : OneService) (ready : ReadyModels) (t : Told) (folder : Folder) 
       (subst (λ b. Session (gateway_of t w h) t.test front1 b said) (backs_same h.back i.back)
       (subst (λ f. Session (gateway_of t w h) t.test f h.back.bytes said) (whole.inputs front front1 is is1) x))
 
-  unbuilt_apart : (p : Protocol) → first_unbuilt w.front w.back ≡ None → first_unbuilt w.front w.back ≡ Some p → ⊥
-  unbuilt_apart p built is = let e = sym built ∙ is in cc
-
   not_long_back : FileTooLong t.files w.back_file → FileRead t.files w.back_file → ⊥
   not_long_back long read =
-      not_long folder w.back_file (subst (λ f. FileTooLong f w.back_file) all.files long) (subst (λ f. FileRead f w.back_file) all.files read)
+      not_long folder w.back_file (subst (λ f. FileTooLong f w.back_file) all.files long)
+      (subst (λ f. FileRead f w.back_file) all.files read)
 
   -- no answer stands before a session that may begin
   pub answer_apart : (a : Answer) → CrossAnswers t w a → CrossOpens t w → ⊥
   answer_apart a (not_made h) o = service_apart t whole w.models w.service a h o.made
-  answer_apart a (unbuilt made p is e) o = unbuilt_apart p o.built is
-  answer_apart a (long_back made built long e) o = not_long_back long o.back
+  answer_apart a (long_back made long e) o = not_long_back long o.back
 
   -- and two are one
   answers_same : (a b : Answer) → CrossAnswers t w a → CrossAnswers t w b → a ≡ b
   answers_same a b (not_made h) (not_made h1) = service_same t whole w.models w.service a b h h1
-  answers_same a b (not_made h) (unbuilt made1 p1 is1 e1) = absurd (service_apart t whole w.models w.service a h made1)
-  answers_same a b (not_made h) (long_back made1 built1 long1 e1) = absurd (service_apart t whole w.models w.service a h made1)
-  answers_same a b (unbuilt made p is e) (not_made h1) = absurd (service_apart t whole w.models w.service b h1 made)
-  answers_same a b (unbuilt made p is e) (unbuilt made1 p1 is1 e1) =
-      e ∙ ap (λ x. refused (unbuilt_line x)) (same_Some p p1 (sym is ∙ is1)) ∙ sym e1
-  answers_same a b (unbuilt made p is e) (long_back made1 built1 long1 e1) = absurd (unbuilt_apart p built1 is)
-  answers_same a b (long_back made built long e) (not_made h1) = absurd (service_apart t whole w.models w.service b h1 made)
-  answers_same a b (long_back made built long e) (unbuilt made1 p1 is1 e1) = absurd (unbuilt_apart p1 built is1)
-  answers_same a b (long_back made built long e) (long_back made1 built1 long1 e1) = e ∙ sym e1
+  answers_same a b (not_made h) (long_back made1 long1 e1) = absurd (service_apart t whole w.models w.service a h made1)
+  answers_same a b (long_back made long e) (not_made h1) = absurd (service_apart t whole w.models w.service b h1 made)
+  answers_same a b (long_back made long e) (long_back made1 long1 e1) = e ∙ sym e1
 
-  module _ (stays : StaysServable) (sessions : OneSession) where
+  module _ (stays : StaysServable) (texts : TargetTextsWhereJson) (sessions : OneSession) where
     said_same : (h i : CrossOpens t w) (front front1 : List ℕ) (said said1 : SessionSaid) → IsInput t.input front → IsInput t.input front1
         → Session (gateway_of t w h) t.test front h.back.bytes said → Session (gateway_of t w i) t.test front1 i.back.bytes said1
         → said ≡ said1
     said_same h i front front1 said said1 is is1 x y =
-        sessions (gateway_of t w i) t.test (opens_serves stays t w i) turn_limit front1 i.back.bytes said said1
+        sessions (gateway_of t w i) t.test (opens_serves stays texts t w i) turn_limit front1 i.back.bytes said said1
         (session_moved h i front front1 said is is1 x) y
 
     pub cross_same : (c d : Came) → CrossSays t w c → CrossSays t w d → c ≡ d
@@ -108,6 +99,6 @@ module _ (ones : OneService) (ready : ReadyModels) (t : Told) (folder : Folder) 
         e ∙ ap (λ (s : SessionSaid). came_writing in_part (session_answer s) (Some (requests_file w.out_file s)))
         (said_same o o1 f f1 said said1 is is1 x x1) ∙ sym e1
 
-pub one_cross : OneService → ReadyModels → StaysServable → OneSession → (w : CrossAsked) → ComesToOne (cross_asked w)
-one_cross ones ready stays sessions w t folder input c d all says says1 =
-    cross_same ones ready t folder input all w stays sessions c d says says1
+pub one_cross : OneService → ReadyModels → StaysServable → TargetTextsWhereJson → OneSession → (w : CrossAsked) → ComesToOne (cross_asked w)
+one_cross ones ready stays texts sessions w t folder input c d all says says1 =
+    cross_same ones ready t folder input all w stays texts sessions c d says says1

@@ -1,14 +1,13 @@
 -- Files that are there, an input and a store come to some session, or to an answer before it. Where a case can't be decided, each of its
 -- two sides is denied in turn.
-use Rattle.std.proofs.Common.{◌≡◌, ℕ, inl, inr, List, [], ◌∷◌, ◌++◌, Option, Some, None, length, sym, subst, refl, arith}
+use Rattle.std.proofs.Common.{◌≡◌, ℕ, inl, inr, List, [], ◌∷◌, ◌++◌, Some, length, sym, subst, refl, arith}
 use Rattle.std.proofs.lemmas.Bool.{cases_lt}
 use Rattle.std.proofs.lemmas.List.Elements.{Contains-append_left, Contains-append_right}
 use Rattle.sm_io.specs.Files.{Folder, Holds, file_at}
 use Rattle.sm_load.specs.Laws.{ReadyModels, SomeLoad}
-use Rattle.sm_http.specs.declared.message.Protocol.{Protocol}
 use Rattle.sm_service.specs.Laws.{SomeService, StaysServable}
 use Rattle.sm_session.specs.Sessions.{turn_limit}
-use Rattle.sm_asked.specs.Answer.{Came, came, came_writing, past, refused}
+use Rattle.sm_asked.specs.Answer.{Came, came, came_writing, past}
 use Rattle.sm_asked.specs.Answer.InputUse.{in_part, untouched}
 use Rattle.sm_asked.specs.AskedLaws.{AreThere, ComesToSome, TellsAll}
 use Rattle.sm_asked.specs.Limits.{file_limit}
@@ -17,42 +16,33 @@ use Rattle.sm_asked.specs.Stages.{Told, IsInput}
 use Rattle.sm_asked_service.specs.ServiceStages.{ServiceMade}
 use Rattle.sm_asked_service.proofs.SomeServiceAsked.{service_answered}
 use Rattle.sm_gateway.specs.Laws.{SomeSession}
-use Rattle.sm_asked_gateway.specs.GatewayAnswers.{unbuilt_line}
-use Rattle.sm_asked_gateway.specs.GatewayStages.{first_unbuilt}
+use Rattle.sm_rest.specs.Laws.{TargetTextsWhereJson}
 use Rattle.sm_cross_command.specs.Cross.{CrossSays, cross_asked, requests_file, session_answer}
-use Rattle.sm_cross_command.specs.Cross.CrossAnswers.{not_made, unbuilt, long_back}
+use Rattle.sm_cross_command.specs.Cross.CrossAnswers.{not_made, long_back}
 use Rattle.sm_cross_command.specs.Cross.CrossSays.{not_opened, session}
 use Rattle.sm_cross_command.specs.CrossStages.{CrossOpens, gateway_of}
 use Rattle.sm_cross_command.specs.CrossWords.{CrossAsked}
 use Rattle.sm_cross_command.proofs.OneCross.{opens_serves}
 
-module _ (stays : StaysServable) (sessions : SomeSession) (t : Told) (folder : Folder) (input : List ℕ) (all : TellsAll t folder input)
-    (w : CrossAsked) (none : (c : Came) → CrossSays t w c → ⊥) where
+module _ (stays : StaysServable) (texts : TargetTextsWhereJson) (sessions : SomeSession) (t : Told) (folder : Folder) (input : List ℕ)
+    (all : TellsAll t folder input) (w : CrossAsked) (none : (c : Came) → CrossSays t w c → ⊥) where
   -- a session that may begin
   by_session : CrossOpens t w → ⊥
   by_session o =
-      sessions (gateway_of t w o) t.test (opens_serves stays t w o) turn_limit input o.back.bytes (omega arith)
+      sessions (gateway_of t w o) t.test (opens_serves stays texts t w o) turn_limit input o.back.bytes (omega arith)
       (λ said x. none (came_writing in_part (session_answer said) (Some (requests_file w.out_file said)))
       (session o input (subst (λ i. IsInput i input) (sym all.input) refl) said x refl))
 
   -- the back's file, by its length
-  by_back : (made : ServiceMade t w.models w.service) → first_unbuilt w.front w.back ≡ None → (bytes : List ℕ)
-      → file_at folder w.back_file ≡ Some bytes → ⊥
-  by_back made built bytes there = elim (cases_lt file_limit (length bytes)) [
+  by_back : ServiceMade t w.models w.service → (bytes : List ℕ) → file_at folder w.back_file ≡ Some bytes → ⊥
+  by_back made bytes there = elim (cases_lt file_limit (length bytes)) [
     | inl long ↦ none (came untouched (past file_limit_line)) (not_opened (past file_limit_line)
-        (long_back made built (record { bytes = bytes; held = held; long = long }) refl) refl)
-    | inr within ↦ by_session (record { made = made; built = built; back = record { bytes = bytes; held = held; within = within } })
+        (long_back made (record { bytes = bytes; held = held; long = long }) refl) refl)
+    | inr within ↦ by_session (record { made = made; back = record { bytes = bytes; held = held; within = within } })
   ]
     where
       held : Holds t.files w.back_file (Some bytes)
       held = subst (λ f. Holds f w.back_file (Some bytes)) (sym all.files) there
-
-  -- a service, by whether both protocols are built
-  by_protocols : (made : ServiceMade t w.models w.service) → (first : Option Protocol) → first_unbuilt w.front w.back ≡ first
-      → (bytes : List ℕ) → file_at folder w.back_file ≡ Some bytes → ⊥
-  by_protocols made None is bytes there = by_back made is bytes there
-  by_protocols made (Some p) is bytes there =
-      none (came untouched (refused (unbuilt_line p))) (not_opened (refused (unbuilt_line p)) (unbuilt made p is refl) refl)
 
 -- files that are read, and among them the last
 behind_there : (folder : Folder) (names : List (List ℕ)) (last : List ℕ) → AreThere folder (names ++ last ∷ []) → AreThere folder names
@@ -62,9 +52,10 @@ last_there : (folder : Folder) (names : List (List ℕ)) (last : List ℕ) → A
     → (file : List ℕ) × (file_at folder last ≡ Some file)
 last_there folder names last there = there last (Contains-append_right names (last ∷ []) last (0, omega arith, refl))
 
-pub some_cross : SomeService → SomeLoad → ReadyModels → StaysServable → SomeSession → (w : CrossAsked) → ComesToSome (cross_asked w)
-some_cross services loads ready stays sessions w t folder input all there none =
+pub some_cross : SomeService → SomeLoad → ReadyModels → StaysServable → TargetTextsWhereJson → SomeSession → (w : CrossAsked)
+    → ComesToSome (cross_asked w)
+some_cross services loads ready stays texts sessions w t folder input all there none =
     let back = last_there folder w.models w.back_file there in
     service_answered services loads ready t folder all.files w.models w.service (behind_there folder w.models w.back_file there)
     (λ a says. none (came untouched a) (not_opened a (not_made says) refl))
-    (λ made. by_protocols stays sessions t folder input all w none made (first_unbuilt w.front w.back) refl back.0 back.1)
+    (λ made. by_back stays texts sessions t folder input all w none made back.0 back.1)

@@ -1,14 +1,13 @@
 -- What the command `cross` comes to, over bytes alone. The decisions stand in their order: those of the service, which are the model files,
--- the service and its patterns; whether messages of its protocols are read; the length of the back's file. Then the session of the input
--- and of that file: its answers are put, its requests are written, and its end is the status. No line is printed once it began.
-use Rattle.std.specs.Prelude.{◌≡◌, ℕ, true, List, [], ◌∷◌, ◌++◌, None, Some}
-use Rattle.sm_http.specs.declared.message.Protocol.{Protocol}
+-- the service and its patterns; the length of the back's file. Then the session of the input and of that file: its answers are put, its
+-- requests are written, and its end is the status. No line is printed once it began.
+use Rattle.std.specs.Prelude.{◌≡◌, ℕ, true, List, [], ◌∷◌, ◌++◌, Some}
 use Rattle.sm_session.specs.Sessions.{SessionSaid, flat}
 use Rattle.sm_session.specs.declared.session_end.SessionEnd.{SessionEnd}
 use Rattle.sm_session.specs.declared.session_end.SessionEnd.TheVariants.{Closed, Quota, FrontEnded, BackEnded, FrontFraming, BackFraming}
 use Rattle.sm_session.specs.declared.session_end.SessionEnd.TheVariants.{FrontRead, FrontWrite, BackRead, BackWrite}
 use Rattle.sm_session.specs.declared.session_end.SessionEnd.TheVariants.{NoMemory as out_of_memory}
-use Rattle.sm_asked.specs.Answer.{Answer, Came, FileWritten, came, came_writing, past, refused}
+use Rattle.sm_asked.specs.Answer.{Answer, Came, FileWritten, came, came_writing, past}
 use Rattle.sm_asked.specs.Answer.InputUse.{in_part, untouched}
 use Rattle.sm_asked.specs.CommandAsked.{CommandAsked}
 use Rattle.sm_asked.specs.Lines.{file_limit_line}
@@ -18,8 +17,6 @@ use Rattle.sm_asked.specs.declared.status.Status.TheVariants.{Done, Limit, NoMem
 use Rattle.sm_asked_service.specs.ServiceAnswers.{ServiceAnswers}
 use Rattle.sm_asked_service.specs.ServiceStages.{ServiceMade}
 use Rattle.sm_gateway.specs.GatewayTurns.{Session}
-use Rattle.sm_asked_gateway.specs.GatewayAnswers.{unbuilt_line}
-use Rattle.sm_asked_gateway.specs.GatewayStages.{first_unbuilt}
 use Rattle.sm_cross_command.specs.CrossStages.{CrossOpens, gateway_of}
 use Rattle.sm_cross_command.specs.CrossWords.{CrossAsked}
 
@@ -46,10 +43,7 @@ requests_file name said = record { name = name; bytes = flat said.requests }
 -- the answers before a session
 pub data CrossAnswers (t : Told) (w : CrossAsked) (a : Answer) : Type 0 where
   not_made : ServiceAnswers t w.models w.service a → CrossAnswers t w a
-  unbuilt : ServiceMade t w.models w.service → (protocol : Protocol) → first_unbuilt w.front w.back ≡ Some protocol
-      → a ≡ refused (unbuilt_line protocol) → CrossAnswers t w a
-  long_back : ServiceMade t w.models w.service → first_unbuilt w.front w.back ≡ None → FileTooLong t.files w.back_file
-      → a ≡ past file_limit_line → CrossAnswers t w a
+  long_back : ServiceMade t w.models w.service → FileTooLong t.files w.back_file → a ≡ past file_limit_line → CrossAnswers t w a
 
 -- what the command comes to
 pub data CrossSays (t : Told) (w : CrossAsked) (c : Came) : Type 0 where

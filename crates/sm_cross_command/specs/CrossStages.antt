@@ -1,15 +1,12 @@
--- How far the command `cross` has come behind a service of its model files, over bytes alone: both protocols are built, and the bytes of
--- the back are read. Then a session may begin.
-use Rattle.std.specs.Prelude.{◌≡◌, None}
+-- How far the command `cross` has come behind a service of its model files, over bytes alone: the bytes of the back are read. Then a
+-- session may begin.
 use Rattle.sm_asked.specs.Stages.{Told, FileRead}
 use Rattle.sm_asked_service.specs.ServiceStages.{ServiceMade, service_of}
 use Rattle.sm_gateway.specs.GatewayData.{GatewayData}
-use Rattle.sm_asked_gateway.specs.GatewayStages.{first_unbuilt}
 use Rattle.sm_cross_command.specs.CrossWords.{CrossAsked}
 
 pub record CrossOpens (t : Told) (w : CrossAsked) : Type 0 where
   pub made : ServiceMade t w.models w.service
-  pub built : first_unbuilt w.front w.back ≡ None
   pub back : FileRead t.files w.back_file
 
 -- the gateway of the session

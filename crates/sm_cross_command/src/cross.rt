@@ -12,20 +12,18 @@ ghost use Rattle.sm_asked.specs.Outside.{inputs_seen, outside};
 ghost use Rattle.sm_asked.specs.steps.FileSteps.{OpensFile};
 ghost use Rattle.sm_asked_ends.specs.AskedEnds.{AskedEnds};
 ghost use Rattle.sm_gateway.specs.GatewayData.{IsHost, ServesBoth};
-ghost use Rattle.sm_gateway.specs.GatewayView.{gateway_data};
+ghost use Rattle.sm_gateway.specs.GatewayView.{KeepsBoth, gateway_data};
 ghost use Rattle.sm_cross_command.specs.Cross.{cross_asked};
 ghost use Rattle.sm_cross_command.specs.CrossView.{cross_said};
 ghost use Rattle.sm_cross_command.specs.steps.CrossSteps.{OpensCross, OpensService, RunsAndWrites};
 
 use crate::status::status_after;
 use crate::words::CrossWords;
-use sm_asked::{CommandStop, Status, limit_line, past, refused};
+use sm_asked::{CommandStop, Status, limit_line, past};
 use sm_asked_ends::print_stop;
-use sm_asked_gateway::first_unbuilt;
-use sm_asked_service::{load_service, protocol_word};
+use sm_asked_service::load_service;
 use sm_gateway::{Gateway, serve_session};
 use sm_io::{CalmSink, CalmSource, FileRefusal, Files, Sink, Source};
-use sm_lines::line;
 use sm_service::Service;
 use sm_shapes::Patterns;
 use sm_tree::NoMemory;
@@ -76,21 +74,19 @@ fn open_service<F: Files>(
         (files_seen (F.held files.old) (F.read_faults files.old) (F.write_faults files.old))
         (files_seen (F.held files.new) (F.read_faults files.new) (F.write_faults files.new))
         (cross_said words.entry) (service_data service) result }
+    ensures kept { IfOk result (λ o. KeepsBoth o.gateway) }
     ensures held { F.held files.new ≡ F.held files.old }
     ensures read_faults { F.read_faults files.old ≤ F.read_faults files.new }
     ensures write_faults { F.write_faults files.new ≡ F.write_faults files.old }
     ensures same_reads { LetsSame (F.lets_read files.old) (F.lets_read files.new) }
     ensures same_writes { LetsSame (F.lets_write files.old) (F.lets_write files.new) }
 {
-    match first_unbuilt(words.front, words.back) {
-        Some(protocol) => Err(refused(line(alloc, "Unbuilt", protocol_word(protocol)))),
-        None => match read_back(alloc, files, words.back_file) {
-            Ok(back) => match Gateway::new(alloc, service, words.front, words.back, words.host) {
-                Ok(gateway) => Ok(Opened { gateway, back }),
-                Err(NoMemory) => Err(CommandStop::NoMemory),
-            },
-            Err(stop) => Err(stop),
+    match read_back(alloc, files, words.back_file) {
+        Ok(back) => match Gateway::new(alloc, service, words.front, words.back, words.host) {
+            Ok(gateway) => Ok(Opened { gateway, back }),
+            Err(NoMemory) => Err(CommandStop::NoMemory),
         },
+        Err(stop) => Err(stop),
     }
 }
 
@@ -110,6 +106,7 @@ fn open<F: Files, P: Patterns>(
         P.test (seen_store (P.added patterns.old) (P.refused patterns.old) (P.refusals patterns.old))
         (seen_store (P.added patterns.new) (P.refused patterns.new) (P.refusals patterns.new)) (cross_said words.entry) result }
     ensures serves { IfOk result (λ o. ServesBoth (gateway_data o.gateway) P.test) }
+    ensures kept { IfOk result (λ o. KeepsBoth o.gateway) }
     ensures stored { IfOk result (λ o. AreStored (gateway_data o.gateway).service.table.patterns (P.added patterns.new)) }
     ensures held { F.held files.new ≡ F.held files.old }
     ensures read_faults { F.read_faults files.old ≤ F.read_faults files.new }
@@ -118,6 +115,7 @@ fn open<F: Files, P: Patterns>(
     ensures same_writes { LetsSame (F.lets_write files.old) (F.lets_write files.new) }
     ensures added { OnlyAdds (P.added patterns.old) (P.added patterns.new) }
 {
+    sm_rest::laws::target_texts();
     match load_service(alloc, files, words.models, words.service, patterns) {
         Ok(service) => open_service(alloc, words, service, files),
         Err(stop) => Err(stop),
@@ -135,6 +133,7 @@ fn run_opened<F: Files, S: Source, K: Sink, P: Patterns>(
     patterns: &mut P,
 ) -> Status
     requires serves { ServesBoth (gateway_data opened.gateway) P.test }
+    requires kept { KeepsBoth opened.gateway }
     requires stored { AreStored (gateway_data opened.gateway).service.table.patterns (P.added patterns.old) }
     requires writes { F.lets_write files.old out_file.now }
     ensures runs { RunsAndWrites (gateway_data opened.gateway) P.test opened.back.items out_file.now
@@ -175,8 +174,8 @@ fn run_opened<F: Files, S: Source, K: Sink, P: Patterns>(
 ///
 /// # Errors
 ///
-/// In this order, each told by its line and status: those of `load_service`; a protocol whose messages aren't read yet; a file of the back that
-/// is too long. Then the status is that of the session's end, but where its requests can't be written.
+/// In this order, each told by its line and status: those of `load_service`; a file of the back that is too long. Then the status is that
+/// of the session's end, but where its requests can't be written.
 pub fn cross<F: Files, S: Source, K: Sink, P: Patterns>(
     alloc: Global,
     words: CrossWords<'_>,

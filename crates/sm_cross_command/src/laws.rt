@@ -10,6 +10,7 @@ pub fn one_answer()
     sm_service::laws::one_service();
     sm_service::laws::stays_servable();
     sm_load::laws::sound_models();
+    sm_rest::laws::target_texts();
     sm_gateway::laws::one_session();
 }
 
@@ -21,5 +22,6 @@ pub fn some_answer()
     sm_service::laws::stays_servable();
     sm_load::laws::some_load();
     sm_load::laws::sound_models();
+    sm_rest::laws::target_texts();
     sm_gateway::laws::some_session();
 }

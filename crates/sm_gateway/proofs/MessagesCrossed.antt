@@ -5,7 +5,6 @@ use Rattle.sm_shapes.specs.Fitting.{Test}
 use Rattle.sm_shapes.specs.Values.{Val}
 use Rattle.sm_http.specs.declared.message.Head.{Head}
 use Rattle.sm_http.specs.declared.message.Message.{Message}
-use Rattle.sm_http.specs.declared.message.Protocol.{Protocol}
 use Rattle.sm_service.specs.ServiceData.{ServiceData}
 use Rattle.sm_session.specs.Responding.{begun_for}
 use Rattle.sm_messages.specs.Answers.{AnswersResponse, AtHead, RefusedAs, reply_role, reply_val}
@@ -20,25 +19,27 @@ use Rattle.sm_messages.specs.declared.reply.Reply.{Reply}
 use Rattle.sm_messages.proofs.TreeAnswered.{refused_more, response_more}
 use Rattle.sm_protocols.specs.ProtocolBodies.{ProtocolBegun}
 use Rattle.sm_protocols.specs.declared.body.ProtocolBody.{ProtocolBody}
+use Rattle.sm_protocols.specs.declared.spoken.Spoken.{Spoken}
 use Rattle.sm_gateway.specs.Answers.{CrossesResponse}
 use Rattle.sm_gateway.specs.GatewayData.{GatewayData, back_form, front_form}
 use Rattle.sm_gateway.specs.GatewayTurns.{RequestCrosses, ResponseCrosses}
 use Rattle.sm_gateway.specs.declared.body.GatewayBody.{GatewayBody}
-use Rattle.sm_gateway.specs.steps.Reading.{AnsweredAs, GatewayReads, NotCarriedAs, ReadsResponse, WritesFor}
+use Rattle.sm_gateway.specs.steps.Reading.{AnsweredAs, BothSpoken, GatewayReads, NotCarriedAs, ReadsResponse, WritesFor}
 use Rattle.sm_gateway.proofs.HeadsTowards.{answers_towards, judged_towards, response_admitted}
 use Rattle.sm_gateway.proofs.MessagesBegun.{same_empty}
 use Rattle.sm_gateway.proofs.RefusalsSaid.{at_head_of}
 
 -- all bytes of a message were read
-pub front_whole : (g : GatewayData) (test : Test) (body : GatewayBody) (m : Message) (empty : Bool) (bytes : List ℕ) → bytes ≡ m.body
-    → empty ≡ is_empty bytes → GatewayReads g test body (record { request = None; head = m.head; empty = empty }) bytes
-    → GatewayReads g test body (begun_for None m) m.body
-front_whole g test body m empty bytes same is x =
+pub front_whole : (both : BothSpoken) (g : GatewayData) (test : Test) (body : GatewayBody) (m : Message) (empty : Bool) (bytes : List ℕ)
+    → bytes ≡ m.body
+    → empty ≡ is_empty bytes → GatewayReads both g test body (record { request = None; head = m.head; empty = empty }) bytes
+    → GatewayReads both g test body (begun_for None m) m.body
+front_whole both g test body m empty bytes same is x =
     let whole = is ∙ ap is_empty same ∙ sym (same_empty m.body) in
-    subst (λ b. GatewayReads g test body (begun_for None m) b) same
-    (subst (λ e. GatewayReads g test body (record { request = None; head = m.head; empty = e }) bytes) whole x)
+    subst (λ b. GatewayReads both g test body (begun_for None m) b) same
+    (subst (λ e. GatewayReads both g test body (record { request = None; head = m.head; empty = e }) bytes) whole x)
 
-pub body_whole : (p : Protocol) (s : ServiceData) (test : Test) (asked : Asked) (body : ProtocolBody) (m : Message) (empty : Bool)
+pub body_whole : (p : Spoken) (s : ServiceData) (test : Test) (asked : Asked) (body : ProtocolBody) (m : Message) (empty : Bool)
     (bytes : List ℕ) → bytes ≡ m.body → empty ≡ is_empty bytes → ProtocolBegun p s test asked body m.head empty bytes
     → ProtocolBegun p s test asked body m.head (is_empty m.body) m.body
 body_whole p s test asked body m empty bytes same is x =

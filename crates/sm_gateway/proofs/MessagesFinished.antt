@@ -32,8 +32,8 @@ use Rattle.sm_gateway.specs.RefusalAnswers.{back_refusal_answer, refusal_answer}
 use Rattle.sm_gateway.specs.declared.body.GatewayBody.{GatewayBody}
 use Rattle.sm_gateway.specs.declared.body.GatewayBody.TheVariants.{Refused, Reply, Request}
 use Rattle.sm_gateway.specs.declared.body.GatewayCall.{GatewayCall}
-use Rattle.sm_gateway.specs.steps.Reading.{AnsweredAs, AnswersReply, AsksFor, AsksSo, CallsSo, GatewayReads, ReadsBoth, RepliesSo, Stands, TellsFor}
-use Rattle.sm_gateway.specs.steps.Reading.{WasAsked, with_number}
+use Rattle.sm_gateway.specs.steps.Reading.{AnsweredAs, AnswersReply, AsksFor, AsksSo, BothSpoken, CallsSo, GatewayReads, ReadsBoth}
+use Rattle.sm_gateway.specs.steps.Reading.{RepliesSo, Stands, TellsFor, WasAsked, with_number}
 use Rattle.sm_gateway.proofs.GatewayLaws.{asks_so, operation_other_way, other_way, replies_so, served_at_both}
 use Rattle.sm_gateway.proofs.HeadsTowards.{answers_towards, response_admitted}
 use Rattle.sm_gateway.proofs.MessagesBegun.{one_asked_for, same_empty}
@@ -41,60 +41,65 @@ use Rattle.sm_gateway.proofs.RefusalsSaid.{is_said, said_is}
 use Rattle.sm_gateway.proofs.ValuesRead.{ReadValue, value_read}
 
 -- a request that is fed
-pub all_of_request : (g : GatewayData) (test : Test) (body : ProtocolBody) → HasReadRequest (GatewayReads g test (Request body))
-    → HasAll (ProtocolBegun g.front g.service test a_request body)
-all_of_request g test body (m, (none, admits, begun)) =
-    (m.head, m.body, subst (λ b. ProtocolBegun g.front g.service test a_request body m.head b m.body) (same_empty m.body) begun)
+pub all_of_request : (both : BothSpoken) (g : GatewayData) (test : Test) (body : ProtocolBody)
+    → HasReadRequest (GatewayReads both g test (Request body))
+    → HasAll (ProtocolBegun both.front g.service test a_request body)
+all_of_request both g test body (m, (none, admits, begun)) =
+    (m.head, m.body, subst (λ b. ProtocolBegun both.front g.service test a_request body m.head b m.body) (same_empty m.body) begun)
 
-pub request_finished : (g : GatewayData) (test : Test) (body : ProtocolBody) (result : Result (ℕ × Value) MessageRefusal)
-    → OfAll (ProtocolBegun g.front g.service test a_request body)
+pub request_finished : (both : BothSpoken) (g : GatewayData) (test : Test) (body : ProtocolBody)
+    (result : Result (ℕ × Value) MessageRefusal)
+    → OfAll (ProtocolBegun both.front g.service test a_request body)
     (λ head bytes. AnswersRequest (MessageAnswers (front_form g) g.service test a_request head bytes) result)
-    → (m : Message) → GatewayReads g test (Request body) (begun_for None m) m.body
+    → (m : Message) → GatewayReads both g test (Request body) (begun_for None m) m.body
     → AnswersRequest (AnsweredAs g test None m.head m.body) result
-request_finished g test body result all m (none, admits, begun) =
+request_finished both g test body result all m (none, admits, begun) =
     request_more (MessageAnswers (front_form g) g.service test a_request m.head m.body) (AnsweredAs g test None m.head m.body)
     (λ a x. answers_towards (front_form g) (back_form g) g.service test a_request m.head m.body a admits x) result
-    (all m.head m.body (subst (λ b. ProtocolBegun g.front g.service test a_request body m.head b m.body) (same_empty m.body) begun))
+    (all m.head m.body (subst (λ b. ProtocolBegun both.front g.service test a_request body m.head b m.body) (same_empty m.body) begun))
 
 -- one that was refused at its head, and the back's answer that was
-pub request_refused : (g : GatewayData) (test : Test) (refusal : MessageRefusal) (m : Message)
-    → GatewayReads g test (Refused refusal) (begun_for None m) m.body
+pub request_refused : (both : BothSpoken) (g : GatewayData) (test : Test) (refusal : MessageRefusal) (m : Message)
+    → GatewayReads both g test (Refused refusal) (begun_for None m) m.body
     → RefusedAs (λ r. AnsweredAs g test None m.head m.body (the_refusal r)) refusal
-request_refused g test refusal m (unasked, r, said, stays_so) =
+request_refused both g test refusal m (unasked, r, said, stays_so) =
     is_said (λ k. AnsweredAs g test None m.head m.body (the_refusal k)) refusal r said (stays_so m.body (sym (same_empty m.body)))
 
-pub reply_refused_whole : (g : GatewayData) (test : Test) (refusal : MessageRefusal) (m said : Message)
-    → GatewayReads g test (Refused refusal) (begun_for (Some m) said) said.body
+pub reply_refused_whole : (both : BothSpoken) (g : GatewayData) (test : Test) (refusal : MessageRefusal) (m said : Message)
+    → GatewayReads both g test (Refused refusal) (begun_for (Some m) said) said.body
     → AnswersReply g test m said (Err refusal)
-reply_refused_whole g test refusal m said (asked, r, told, stays_so) = (
+reply_refused_whole both g test refusal m said (asked, r, told, stays_so) = (
   asked,
   is_said (λ k. AnsweredAs g test (Some m) said.head said.body (the_refusal k)) refusal r told
       (stays_so said.body (sym (same_empty said.body))),
 )
 
 -- a request is none of the back's answers, and none of these is a request
-pub reply_unasked : (g : GatewayData) (test : Test) (o : ℕ) (body : ProtocolBody) → HasReadRequest (GatewayReads g test (Reply o body)) → ⊥
-reply_unasked g test o body (m, (request, some, asked, begun)) = absurd cc
+pub reply_unasked : (both : BothSpoken) (g : GatewayData) (test : Test) (o : ℕ) (body : ProtocolBody)
+    → HasReadRequest (GatewayReads both g test (Reply o body)) → ⊥
+reply_unasked both g test o body (m, (request, some, asked, begun)) = absurd cc
 
-pub request_asked_of : (g : GatewayData) (test : Test) (body : ProtocolBody) → HasReadReply (GatewayReads g test (Request body)) → ⊥
-request_asked_of g test body (m, said, (none, admits, begun)) = absurd cc
+pub request_asked_of : (both : BothSpoken) (g : GatewayData) (test : Test) (body : ProtocolBody)
+    → HasReadReply (GatewayReads both g test (Request body)) → ⊥
+request_asked_of both g test body (m, said, (none, admits, begun)) = absurd cc
 
 -- the back's answer that is fed
-pub all_of_reply : (g : GatewayData) (test : Test) (o : ℕ) (body : ProtocolBody) → HasReadReply (GatewayReads g test (Reply o body))
-    → (p : ℕ) × HasAll (ProtocolBegun g.back g.service test (a_response p) body)
-all_of_reply g test o body (m, said, (request, same, asked, begun)) =
-    let all = subst (λ b. ProtocolBegun g.back g.service test (a_response o) body said.head b said.body) (same_empty said.body) begun in
+pub all_of_reply : (both : BothSpoken) (g : GatewayData) (test : Test) (o : ℕ) (body : ProtocolBody)
+    → HasReadReply (GatewayReads both g test (Reply o body))
+    → (p : ℕ) × HasAll (ProtocolBegun both.back g.service test (a_response p) body)
+all_of_reply both g test o body (m, said, (request, same, asked, begun)) =
+    let all = subst (λ b. ProtocolBegun both.back g.service test (a_response o) body said.head b said.body) (same_empty said.body) begun in
     (o, (said.head, said.body, all))
 
-pub reply_finished : (g : GatewayData) (test : Test) → ServesBoth g test → ReadsBoth g → (o : ℕ) (body : ProtocolBody)
+pub reply_finished : (both : BothSpoken) (g : GatewayData) (test : Test) → ServesBoth g test → ReadsBoth g → (o : ℕ) (body : ProtocolBody)
     (result : Result MessageReply MessageRefusal)
-    → OfAll (ProtocolBegun g.back g.service test (a_response o) body)
+    → OfAll (ProtocolBegun both.back g.service test (a_response o) body)
     (λ head bytes. AnswersResponse o (MessageAnswers (back_form g) g.service test (a_response o) head bytes) result)
-    → (m said : Message) → GatewayReads g test (Reply o body) (begun_for (Some m) said) said.body
+    → (m said : Message) → GatewayReads both g test (Reply o body) (begun_for (Some m) said) said.body
     → AnswersReply g test m said (with_number o result)
-reply_finished g test serves reads o body result all m said (request, same, asked, begun) =
+reply_finished both g test serves reads o body result all m said (request, same, asked, begun) =
     by result (all said.head said.body
-    (subst (λ b. ProtocolBegun g.back g.service test (a_response o) body said.head b said.body) (same_empty said.body) begun))
+    (subst (λ b. ProtocolBegun both.back g.service test (a_response o) body said.head b said.body) (same_empty said.body) begun))
   where
     own : WasAsked g test o m
     own = subst (λ k. WasAsked g test o k) (sym (same_Some m request same)) asked
@@ -212,41 +217,45 @@ so_comes g test stands m before now (Asking call) (text, asked, is, called) =
 so_comes g test stands m before now (Answered a) x = asks_so g test stands m (answered a) x
 
 -- so a request is finished whose value was put to the back, or of which it was told why it isn't
-pub request_asked : (g : GatewayData) (test : Test) → Stands g test → (body : GatewayBody) (o : ℕ) (v : Value) (before now : List ℕ)
+pub request_asked : (both : BothSpoken) (g : GatewayData) (test : Test) → Stands g test
+    → (body : GatewayBody) (o : ℕ) (v : Value) (before now : List ℕ)
     (result : Result (Turn GatewayCall) NoMemory)
-    → ((m : Message) → GatewayReads g test body (begun_for None m) m.body
+    → ((m : Message) → GatewayReads both g test body (begun_for None m) m.body
     → AnswersRequest (AnsweredAs g test None m.head m.body) (Ok (o, v)))
     → AsksFor (back_form g) g.service g.host (goal_of o the_input) (val_of v) before now result
-    → FinishesRequest (AsksSo g test) (CallsSo g test) (GatewayReads g test body) before now result
-request_asked g test stands body o v before now (Ok turn) answers way =
+    → FinishesRequest (AsksSo g test) (CallsSo g test) (GatewayReads both g test body) before now result
+request_asked both g test stands body o v before now (Ok turn) answers way =
     λ m reads. so_comes g test stands m before now turn (request_comes g test m o (val_of v) before now turn (answers m reads) way)
-request_asked g test stands body o v before now (Err refusal) answers way = tt
+request_asked both g test stands body o v before now (Err refusal) answers way = tt
 
-pub request_stays : (g : GatewayData) (test : Test) → Stands g test → (body : GatewayBody) (refusal : MessageRefusal) (a : Message) (before now : List ℕ)
-    → ((m : Message) → GatewayReads g test body (begun_for None m) m.body
+pub request_stays : (both : BothSpoken) (g : GatewayData) (test : Test) → Stands g test
+    → (body : GatewayBody) (refusal : MessageRefusal) (a : Message) (before now : List ℕ)
+    → ((m : Message) → GatewayReads both g test body (begun_for None m) m.body
     → AnswersRequest (AnsweredAs g test None m.head m.body) (Err refusal))
     → ((r : Refusal) × IsSaid refusal r × (a ≡ refusal_answer r))
-    → FinishesRequest (AsksSo g test) (CallsSo g test) (GatewayReads g test body) before now
+    → FinishesRequest (AsksSo g test) (CallsSo g test) (GatewayReads both g test body) before now
     (Ok (Answered a))
-request_stays g test stands body refusal a before now answers (r, said, is) =
+request_stays both g test stands body refusal a before now answers (r, said, is) =
     λ m reads. asks_so g test stands m (answered a) (request_answered g test m a refusal r said is (answers m reads))
 
 -- and the back's answer whose value was told to the front, or of which it was told why it isn't
-pub reply_told : (g : GatewayData) (test : Test) → Stands g test → (body : GatewayBody) (o : ℕ) (reply : MessageReply) (result : Result Message NoMemory)
-    → ((m said : Message) → GatewayReads g test body (begun_for (Some m) said) said.body → AnswersReply g test m said (Ok (o, reply)))
+pub reply_told : (both : BothSpoken) (g : GatewayData) (test : Test) → Stands g test → (body : GatewayBody) (o : ℕ) (reply : MessageReply)
+    (result : Result Message NoMemory)
+    → ((m said : Message) → GatewayReads both g test body (begun_for (Some m) said) said.body → AnswersReply g test m said (Ok (o, reply)))
     → TellsFor (front_form g) g.service g.host (goal_of o (reply_role reply)) (reply_val reply) result
-    → FinishesReply (RepliesSo g test) (GatewayReads g test body) result
-reply_told g test stands body o reply (Ok a) answers tells =
+    → FinishesReply (RepliesSo g test) (GatewayReads both g test body) result
+reply_told both g test stands body o reply (Ok a) answers tells =
     λ m said reads.
     let told = answers m said reads in
     replies_so g test stands m said a
     (reply_comes g test m said a o (goal_of o (reply_role reply)) (reply_val reply) told.0 told.1 tells)
-reply_told g test stands body o reply (Err refusal) answers tells = tt
+reply_told both g test stands body o reply (Err refusal) answers tells = tt
 
-pub reply_stays : (g : GatewayData) (test : Test) → Stands g test → (body : GatewayBody) (refusal : MessageRefusal) (result : Result Message NoMemory)
-    → ((m said : Message) → GatewayReads g test body (begun_for (Some m) said) said.body → AnswersReply g test m said (Err refusal))
+pub reply_stays : (both : BothSpoken) (g : GatewayData) (test : Test) → Stands g test → (body : GatewayBody) (refusal : MessageRefusal)
+    (result : Result Message NoMemory)
+    → ((m said : Message) → GatewayReads both g test body (begun_for (Some m) said) said.body → AnswersReply g test m said (Err refusal))
     → IfOk result (λ a. (r : Refusal) × IsSaid refusal r × (a ≡ back_refusal_answer r))
-    → FinishesReply (RepliesSo g test) (GatewayReads g test body) result
-reply_stays g test stands body refusal (Ok a) answers (r, told, is) =
+    → FinishesReply (RepliesSo g test) (GatewayReads both g test body) result
+reply_stays both g test stands body refusal (Ok a) answers (r, told, is) =
     λ m said reads. replies_so g test stands m said a (reply_answered g test m said a refusal r told is (answers m said reads))
-reply_stays g test stands body refusal (Err out_of_memory) answers told = tt
+reply_stays both g test stands body refusal (Err out_of_memory) answers told = tt

@@ -1,5 +1,5 @@
 // A value of one side on the other: what is written for it, where it is carried.
-ghost use Rattle.std.specs.Prelude.{◌<◌, List, length, ℕ};
+ghost use Rattle.std.specs.Prelude.{List, ℕ};
 ghost use Rattle.sm_shapes.specs.Fitting.{Fits, any_text};
 ghost use Rattle.sm_shapes.specs.ValueView.{val_of};
 ghost use Rattle.sm_shapes.specs.declared.fault.FaultKind.TheVariants.{NotCarried};
@@ -7,9 +7,11 @@ ghost use Rattle.sm_service.specs.Servable.{Servable};
 ghost use Rattle.sm_service.specs.ServiceView.{service_data};
 ghost use Rattle.sm_messages.specs.Answers.{reply_role, reply_val};
 ghost use Rattle.sm_messages.specs.Goals.{HasGoal, goal_of, the_input};
+ghost use Rattle.sm_messages.specs.IsForm.{ServesOperation};
 ghost use Rattle.sm_messages.specs.MessageAnswers.{by_fault};
 ghost use Rattle.sm_messages.specs.TreeBodies.{goal_place};
 ghost use Rattle.sm_protocols.specs.Forms.{form_of};
+ghost use Rattle.sm_protocols.specs.Kept.{protocol_of};
 ghost use Rattle.sm_gateway.specs.Answers.{IsSaid};
 ghost use Rattle.sm_gateway.specs.steps.Reading.{AsksFor, TellsFor, WritesFor};
 
@@ -46,18 +48,19 @@ pub(crate) fn ask(
     out: &mut Vec<u8>,
 ) -> Result<Turn<GatewayCall>, NoMemory>
     requires servable { Servable (service_data gateway.now.service) }
-    requires built { (form_of gateway.now.back).serves (service_data gateway.now.service) }
-    requires number { operation < length (service_data gateway.now.service).operations }
+    requires served { ServesOperation (form_of (protocol_of gateway.now.back)) (service_data gateway.now.service) operation }
     requires fits { Fits (service_data gateway.now.service).table any_text
         (goal_place (service_data gateway.now.service) (goal_of operation the_input)) (val_of value.now) }
-    ensures { AsksFor (form_of gateway.now.back) (service_data gateway.now.service) gateway.now.host (goal_of operation the_input)
+    ensures { AsksFor (form_of (protocol_of gateway.now.back)) (service_data gateway.now.service) gateway.now.host
+        (goal_of operation the_input)
         (val_of value.now) out.old.items out.new.items result }
 {
     let service = &gateway.service;
-    match uncarried_input(alloc, gateway.back, service, operation, value) {
+    let back = &gateway.back;
+    match uncarried_input(alloc, back, service, operation, value) {
         Ok(None) => {
             let host = gateway.host.as_str();
-            match append_request(alloc, gateway.back, service, operation, value, host, out) {
+            match append_request(alloc, back, service, operation, value, host, out) {
                 Ok(()) => Ok(Turn::Asking(GatewayCall { operation })),
                 Err(NoMemory) => Err(NoMemory),
             }
@@ -78,18 +81,19 @@ pub(crate) fn ask_whole(
     value: &Value,
 ) -> Result<Message, MessageRefusal>
     requires servable { Servable (service_data gateway.now.service) }
-    requires built { (form_of gateway.now.back).serves (service_data gateway.now.service) }
-    requires number { operation < length (service_data gateway.now.service).operations }
+    requires served { ServesOperation (form_of (protocol_of gateway.now.back)) (service_data gateway.now.service) operation }
     requires fits { Fits (service_data gateway.now.service).table any_text
         (goal_place (service_data gateway.now.service) (goal_of operation the_input)) (val_of value.now) }
-    ensures { WritesFor (form_of gateway.now.back) (service_data gateway.now.service) gateway.now.host (goal_of operation the_input)
+    ensures { WritesFor (form_of (protocol_of gateway.now.back)) (service_data gateway.now.service) gateway.now.host
+        (goal_of operation the_input)
         (val_of value.now) result }
 {
     let service = &gateway.service;
-    match uncarried_input(alloc, gateway.back, service, operation, value) {
+    let back = &gateway.back;
+    match uncarried_input(alloc, back, service, operation, value) {
         Ok(None) => {
             let host = gateway.host.as_str();
-            match write_request(alloc, gateway.back, service, operation, value, host) {
+            match write_request(alloc, back, service, operation, value, host) {
                 Ok(message) => Ok(message),
                 Err(NoMemory) => Err(MessageRefusal::NoMemory),
             }
@@ -107,16 +111,16 @@ pub(crate) fn tell_whole(
     reply: &Reply,
 ) -> Result<Message, MessageRefusal>
     requires servable { Servable (service_data gateway.now.service) }
-    requires built { (form_of gateway.now.front).serves (service_data gateway.now.service) }
     requires goal { HasGoal (service_data gateway.now.service) (goal_of operation (reply_role reply.now)) }
     requires fits { Fits (service_data gateway.now.service).table any_text
         (goal_place (service_data gateway.now.service) (goal_of operation (reply_role reply.now))) (reply_val reply.now) }
-    ensures { (host : List ℕ) → WritesFor (form_of gateway.now.front) (service_data gateway.now.service) host
+    ensures { (host : List ℕ) → WritesFor (form_of (protocol_of gateway.now.front)) (service_data gateway.now.service) host
         (goal_of operation (reply_role reply.now)) (reply_val reply.now) result }
 {
     let service = &gateway.service;
-    match uncarried_reply(alloc, gateway.front, service, operation, reply) {
-        Ok(None) => match write_response(alloc, gateway.front, service, operation, reply) {
+    let front = &gateway.front;
+    match uncarried_reply(alloc, front, service, operation, reply) {
+        Ok(None) => match write_response(alloc, front, service, operation, reply) {
             Ok(message) => Ok(message),
             Err(NoMemory) => Err(MessageRefusal::NoMemory),
         },
@@ -133,11 +137,10 @@ pub(crate) fn tell(
     reply: &Reply,
 ) -> Result<Message, NoMemory>
     requires servable { Servable (service_data gateway.now.service) }
-    requires built { (form_of gateway.now.front).serves (service_data gateway.now.service) }
     requires goal { HasGoal (service_data gateway.now.service) (goal_of operation (reply_role reply.now)) }
     requires fits { Fits (service_data gateway.now.service).table any_text
         (goal_place (service_data gateway.now.service) (goal_of operation (reply_role reply.now))) (reply_val reply.now) }
-    ensures { (host : List ℕ) → TellsFor (form_of gateway.now.front) (service_data gateway.now.service) host
+    ensures { (host : List ℕ) → TellsFor (form_of (protocol_of gateway.now.front)) (service_data gateway.now.service) host
         (goal_of operation (reply_role reply.now)) (reply_val reply.now) result }
 {
     match tell_whole(alloc, gateway, operation, reply) {

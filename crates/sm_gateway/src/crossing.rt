@@ -3,7 +3,7 @@ ghost use Rattle.std.specs.Prelude.{◌≡◌};
 ghost use Rattle.sm_shapes.specs.InOrder.{AreStored};
 ghost use Rattle.sm_gateway.specs.Answers.{CrossesRequest, CrossesResponse};
 ghost use Rattle.sm_gateway.specs.GatewayData.{ServesAtBoth, ServesBoth};
-ghost use Rattle.sm_gateway.specs.GatewayView.{gateway_data};
+ghost use Rattle.sm_gateway.specs.GatewayView.{KeepsBoth, gateway_data};
 ghost use Rattle.sm_gateway.specs.steps.Reading.{ReadsBoth, ReadsRequest, ReadsResponse};
 
 use crate::carrying::{ask_whole, tell_whole};
@@ -26,6 +26,7 @@ fn request_value<P: Patterns>(
     patterns: &mut P,
 ) -> Result<(u32, Value), MessageRefusal>
     requires serves { ServesBoth (gateway_data gateway.now) P.test }
+    requires kept { KeepsBoth gateway.now }
     requires reads { ReadsBoth (gateway_data gateway.now) }
     requires stored { AreStored (gateway_data gateway.now).service.table.patterns (P.added patterns.old) }
     ensures reads { ReadsRequest (gateway_data gateway.now) P.test message.now result }
@@ -53,6 +54,7 @@ fn response_reply<P: Patterns>(
     patterns: &mut P,
 ) -> Result<Reply, MessageRefusal>
     requires serves { ServesBoth (gateway_data gateway.now) P.test }
+    requires kept { KeepsBoth gateway.now }
     requires served { ServesAtBoth (gateway_data gateway.now) operation }
     requires stored { AreStored (gateway_data gateway.now).service.table.patterns (P.added patterns.old) }
     ensures reads { ReadsResponse (gateway_data gateway.now) P.test operation message.now result }
@@ -62,7 +64,7 @@ fn response_reply<P: Patterns>(
 {
     let bytes = message.body.as_slice();
     let service = &gateway.service;
-    let back = gateway.back;
+    let back = &gateway.back;
     let empty = is_empty(bytes);
     let mut body = match begin_response(alloc, back, service, operation, &message.head, empty) {
         Ok(body) => body,
@@ -88,6 +90,7 @@ impl Gateway {
         patterns: &mut P,
     ) -> Result<Crossed, MessageRefusal>
         requires serves { ServesBoth (gateway_data self.now) P.test }
+        requires kept { KeepsBoth self.now }
         requires stored { AreStored (gateway_data self.now).service.table.patterns (P.added patterns.old) }
         ensures crosses { CrossesRequest (gateway_data self.now) P.test message.now result }
         ensures added { P.added patterns.new ≡ P.added patterns.old }
@@ -123,6 +126,7 @@ impl Gateway {
         patterns: &mut P,
     ) -> Result<Message, MessageRefusal>
         requires serves { ServesBoth (gateway_data self.now) P.test }
+        requires kept { KeepsBoth self.now }
         requires served { ServesAtBoth (gateway_data self.now) operation }
         requires stored { AreStored (gateway_data self.now).service.table.patterns (P.added patterns.old) }
         ensures crosses { CrossesResponse (gateway_data self.now) P.test operation message.now result }

@@ -4,8 +4,9 @@ ghost use Rattle.std.proofs.Props.{props};
 ghost use Rattle.sm_service.specs.ServiceView.{service_data};
 ghost use Rattle.sm_messages.specs.Crossings.{or_by};
 ghost use Rattle.sm_protocols.specs.Forms.{form_of};
+ghost use Rattle.sm_protocols.specs.Kept.{protocol_of};
 
-use sm_http::Protocol;
+use sm_protocols::Spoken;
 use sm_service::Service;
 use sm_tree::Text;
 
@@ -13,13 +14,13 @@ use sm_tree::Text;
 #[derive(Drop)]
 pub struct Gateway {
     pub(crate) service: Service,
-    pub(crate) front: Protocol,
-    pub(crate) back: Protocol,
+    pub(crate) front: Spoken,
+    pub(crate) back: Spoken,
     pub(crate) host: Text,
     // by the operation: the path by which the front's protocol doesn't serve it, else that of the back's
     pub(crate) restrictions: Vec<Option<Text>>,
     ghost restricted: { (o : ℕ) → o < length (service_data service).operations
         → slice_get restrictions.items o
-        ≡ Some (or_by ((form_of front).restriction (service_data service) o)
-        ((form_of back).restriction (service_data service) o)) } by { Prim.hlevel props },
+        ≡ Some (or_by ((form_of (protocol_of front)).restriction (service_data service) o)
+        ((form_of (protocol_of back)).restriction (service_data service) o)) } by { Prim.hlevel props },
 }

@@ -10,11 +10,13 @@ ghost use Rattle.sm_messages.specs.Answers.{AnswersRequest, AtHead, RefusedAs};
 ghost use Rattle.sm_messages.specs.Crossings.{or_by};
 ghost use Rattle.sm_messages.specs.Goals.{a_request};
 ghost use Rattle.sm_messages.specs.HeadAnswers.{IsJudged, refused_at_head};
+ghost use Rattle.sm_messages.specs.IsForm.{ServesOperation};
 ghost use Rattle.sm_protocols.specs.Forms.{form_of};
+ghost use Rattle.sm_protocols.specs.Kept.{protocol_of};
 ghost use Rattle.sm_gateway.specs.GatewayData.{ServesBoth};
-ghost use Rattle.sm_gateway.specs.GatewayView.{gateway_data};
+ghost use Rattle.sm_gateway.specs.GatewayView.{KeepsBoth, gateway_data};
 ghost use Rattle.sm_gateway.specs.steps.Reading.{AdmitsBody, AnsweredAs, AnswersReply, GatewayReads, IsMediaType, ReadsBoth, RefusesBody};
-ghost use Rattle.sm_gateway.specs.steps.Reading.{WasAsked, with_number};
+ghost use Rattle.sm_gateway.specs.steps.Reading.{WasAsked, both_spoken, with_number};
 
 use crate::body::{GatewayBody, GatewayCall};
 use crate::gateway::Gateway;
@@ -29,8 +31,8 @@ use std::alloc::Global;
 // The path by which one of the protocols doesn't serve an operation, if there is one.
 fn restriction_of(gateway: &Gateway, operation: u32) -> &Option<Text>
     requires { operation < length (service_data gateway.now.service).operations }
-    ensures { result.now ≡ or_by ((form_of gateway.now.front).restriction (service_data gateway.now.service) operation)
-        ((form_of gateway.now.back).restriction (service_data gateway.now.service) operation) }
+    ensures { result.now ≡ or_by ((form_of (protocol_of gateway.now.front)).restriction (service_data gateway.now.service) operation)
+        ((form_of (protocol_of gateway.now.back)).restriction (service_data gateway.now.service) operation) }
 {
     &gateway.restrictions[operation as usize]
 }
@@ -63,8 +65,8 @@ fn admitted(
     body: GatewayBody,
 ) -> Result<GatewayBody, NoMemory>
     requires { operation < length (service_data gateway.now.service).operations }
-    ensures { AdmitsBody (or_by ((form_of gateway.now.front).restriction (service_data gateway.now.service) operation)
-        ((form_of gateway.now.back).restriction (service_data gateway.now.service) operation)) body result }
+    ensures { AdmitsBody (or_by ((form_of (protocol_of gateway.now.front)).restriction (service_data gateway.now.service) operation)
+        ((form_of (protocol_of gateway.now.back)).restriction (service_data gateway.now.service) operation)) body result }
 {
     match restriction_of(gateway, operation) {
         None => Ok(body),
@@ -99,16 +101,18 @@ fn refused_front(
     refusal: MessageRefusal,
 ) -> Result<GatewayBody, NoMemory>
     requires servable { Servable (service_data gateway.now.service) }
-    requires built { (form_of gateway.now.front).serves (service_data gateway.now.service) }
+    requires kept { KeepsBoth gateway.now }
     requires reads { ReadsBoth (gateway_data gateway.now) }
-    requires refused { RefusedAs (AtHead (λ r. IsJudged (form_of gateway.now.front) (service_data gateway.now.service) a_request head.now
+    requires refused { RefusedAs (AtHead (λ r. IsJudged (form_of (protocol_of gateway.now.front)) (service_data gateway.now.service)
+        a_request head.now
         empty (refused_at_head r))) refusal }
     ensures { (test : Test) → ServesBoth (gateway_data gateway.now) test → IfOk result (λ body.
-        GatewayReads (gateway_data gateway.now) test body (record { request = None; head = head.now; empty = empty }) []) }
+        GatewayReads (both_spoken gateway.now) (gateway_data gateway.now) test body
+        (record { request = None; head = head.now; empty = empty }) []) }
 {
     let _empty = empty;
     if is_media_type(&refusal) {
-        return match operation_of(gateway.front, &gateway.service, head) {
+        return match operation_of(&gateway.front, &gateway.service, head) {
             Some(operation) => {
                 let body = GatewayBody::Refused(MessageRefusal::MediaType);
                 admitted(alloc, gateway, operation, body)
@@ -127,18 +131,19 @@ pub(crate) fn begin_front(
     empty: bool,
 ) -> Result<GatewayBody, NoMemory>
     requires servable { Servable (service_data gateway.now.service) }
-    requires built { (form_of gateway.now.front).serves (service_data gateway.now.service) }
+    requires kept { KeepsBoth gateway.now }
     requires reads { ReadsBoth (gateway_data gateway.now) }
     ensures { (test : Test) → ServesBoth (gateway_data gateway.now) test → IfOk result (λ body.
-        GatewayReads (gateway_data gateway.now) test body (record { request = None; head = head.now; empty = empty }) []) }
+        GatewayReads (both_spoken gateway.now) (gateway_data gateway.now) test body
+        (record { request = None; head = head.now; empty = empty }) []) }
 {
-    match begin_request(alloc, gateway.front, &gateway.service, head, empty) {
+    match begin_request(alloc, &gateway.front, &gateway.service, head, empty) {
         Ok((operation, body)) => admitted(alloc, gateway, operation, GatewayBody::Request(body)),
         Err(refusal) => refused_front(alloc, gateway, head, empty, refusal),
     }
 }
 
-/// Begins to read the back's answer to what it was asked.
+/// Begins to read the back's answer to what it was asked, of an operation that it serves.
 pub(crate) fn begin_back(
     alloc: Global,
     gateway: &Gateway,
@@ -147,17 +152,18 @@ pub(crate) fn begin_back(
     empty: bool,
 ) -> Result<GatewayBody, NoMemory>
     requires servable { Servable (service_data gateway.now.service) }
-    requires built { (form_of gateway.now.back).serves (service_data gateway.now.service) }
+    requires kept { KeepsBoth gateway.now }
     requires reads { ReadsBoth (gateway_data gateway.now) }
-    requires number { call.operation < length (service_data gateway.now.service).operations }
+    requires served { ServesOperation (form_of (protocol_of gateway.now.back)) (service_data gateway.now.service) call.operation }
     ensures { (test : Test) → ServesBoth (gateway_data gateway.now) test → IfOk result (λ body.
         (m : Message) → WasAsked (gateway_data gateway.now) test call.operation m
-        → GatewayReads (gateway_data gateway.now) test body (record { request = Some m; head = head.now; empty = empty }) []) }
+        → GatewayReads (both_spoken gateway.now) (gateway_data gateway.now) test body
+        (record { request = Some m; head = head.now; empty = empty }) []) }
 {
     let operation = call.operation;
     match begin_response(
         alloc,
-        gateway.back,
+        &gateway.back,
         &gateway.service,
         operation,
         head,
@@ -177,10 +183,11 @@ pub(crate) fn read_on<P: Patterns>(
     patterns: &mut P,
 ) -> Result<(), NoMemory>
     requires servable { Servable (service_data gateway.now.service) }
+    requires kept { KeepsBoth gateway.now }
     requires stored { AreStored (service_data gateway.now.service).table.patterns (P.added patterns.old) }
-    requires begun { HasRead (GatewayReads (gateway_data gateway.now) P.test body.old) }
-    ensures reads { OnOk result (ReadsOn (GatewayReads (gateway_data gateway.now) P.test body.old)
-        (GatewayReads (gateway_data gateway.now) P.test body.new) piece.now) }
+    requires begun { HasRead (GatewayReads (both_spoken gateway.now) (gateway_data gateway.now) P.test body.old) }
+    ensures reads { OnOk result (ReadsOn (GatewayReads (both_spoken gateway.now) (gateway_data gateway.now) P.test body.old)
+        (GatewayReads (both_spoken gateway.now) (gateway_data gateway.now) P.test body.new) piece.now) }
     ensures added { P.added patterns.new ≡ P.added patterns.old }
     ensures refused { P.refused patterns.new ≡ P.refused patterns.old }
     ensures refusals { P.refusals patterns.new ≡ P.refusals patterns.old }
@@ -188,10 +195,10 @@ pub(crate) fn read_on<P: Patterns>(
     match body {
         GatewayBody::Refused(_) => Ok(()),
         GatewayBody::Request(body) => {
-            body.piece(alloc, gateway.front, &gateway.service, piece, patterns)
+            body.piece(alloc, &gateway.front, &gateway.service, piece, patterns)
         }
         GatewayBody::Reply(_, body) => {
-            body.piece(alloc, gateway.back, &gateway.service, piece, patterns)
+            body.piece(alloc, &gateway.back, &gateway.service, piece, patterns)
         }
     }
 }
@@ -205,9 +212,11 @@ pub(crate) fn finish_front<P: Patterns>(
     patterns: &mut P,
 ) -> Result<(u32, Value), MessageRefusal>
     requires serves { ServesBoth (gateway_data gateway.now) P.test }
+    requires kept { KeepsBoth gateway.now }
     requires stored { AreStored (service_data gateway.now.service).table.patterns (P.added patterns.old) }
-    requires whole { HasReadRequest (GatewayReads (gateway_data gateway.now) P.test body) }
-    ensures answers { (m : Message) → GatewayReads (gateway_data gateway.now) P.test body (begun_for None m) m.body
+    requires whole { HasReadRequest (GatewayReads (both_spoken gateway.now) (gateway_data gateway.now) P.test body) }
+    ensures answers { (m : Message) → GatewayReads (both_spoken gateway.now) (gateway_data gateway.now) P.test body (begun_for None m)
+        m.body
         → AnswersRequest (AnsweredAs (gateway_data gateway.now) P.test None m.head m.body) result }
     ensures added { P.added patterns.new ≡ P.added patterns.old }
     ensures refused { P.refused patterns.new ≡ P.refused patterns.old }
@@ -216,7 +225,7 @@ pub(crate) fn finish_front<P: Patterns>(
     match body {
         GatewayBody::Refused(refusal) => Err(refusal),
         GatewayBody::Request(body) => {
-            body.finish_request(alloc, gateway.front, &gateway.service, patterns)
+            body.finish_request(alloc, &gateway.front, &gateway.service, patterns)
         }
         GatewayBody::Reply(_, _) => unreachable!(),
     }
@@ -244,11 +253,12 @@ pub(crate) fn finish_back<P: Patterns>(
     patterns: &mut P,
 ) -> Result<(u32, Reply), MessageRefusal>
     requires serves { ServesBoth (gateway_data gateway.now) P.test }
+    requires kept { KeepsBoth gateway.now }
     requires reads { ReadsBoth (gateway_data gateway.now) }
     requires stored { AreStored (service_data gateway.now.service).table.patterns (P.added patterns.old) }
-    requires whole { HasReadReply (GatewayReads (gateway_data gateway.now) P.test body) }
+    requires whole { HasReadReply (GatewayReads (both_spoken gateway.now) (gateway_data gateway.now) P.test body) }
     ensures answers { (m : Message) (said : Message)
-        → GatewayReads (gateway_data gateway.now) P.test body (begun_for (Some m) said) said.body
+        → GatewayReads (both_spoken gateway.now) (gateway_data gateway.now) P.test body (begun_for (Some m) said) said.body
         → AnswersReply (gateway_data gateway.now) P.test m said result }
     ensures added { P.added patterns.new ≡ P.added patterns.old }
     ensures refused { P.refused patterns.new ≡ P.refused patterns.old }
@@ -258,7 +268,7 @@ pub(crate) fn finish_back<P: Patterns>(
         GatewayBody::Refused(refusal) => Err(refusal),
         GatewayBody::Request(_) => unreachable!(),
         GatewayBody::Reply(operation, body) => {
-            let reply = body.finish_response(alloc, gateway.back, &gateway.service, patterns);
+            let reply = body.finish_response(alloc, &gateway.back, &gateway.service, patterns);
             replied(operation, reply)
         }
     }

@@ -34,18 +34,20 @@ impl<'a, P: Patterns> Responder for Crossings<'a, P> {
 
     ghost use Rattle.std.proofs.Common.{refl, sym, ap, ◌∙◌, subst};
     ghost use Rattle.sm_shapes.specs.InOrder.{AreStored};
-    ghost use Rattle.sm_gateway.specs.steps.Reading.{GatewayReads, Stands, WasAsked};
+    ghost use Rattle.sm_gateway.specs.GatewayView.{KeepsBoth};
+    ghost use Rattle.sm_gateway.specs.steps.Reading.{GatewayReads, Stands, WasAsked, both_spoken};
 
     ghost asking = { λ r m a. AsksSo (gateway_data r.gateway.now) P.test m a };
 
     ghost replying = { λ r m said a. RepliesSo (gateway_data r.gateway.now) P.test m said a };
 
     ghost stands = { λ r s. Stands (gateway_data r.gateway.now) P.test
-        × AreStored (gateway_data r.gateway.now).service.table.patterns (P.added s) };
+        × AreStored (gateway_data r.gateway.now).service.table.patterns (P.added s)
+        × KeepsBoth r.gateway.now };
 
     ghost alike = { λ r s t. (P.added t ≡ P.added s) × (P.refused t ≡ P.refused s) × (P.refusals t ≡ P.refusals s) };
 
-    ghost reads = { λ r body begun bytes. GatewayReads (gateway_data r.gateway.now) P.test body begun bytes };
+    ghost reads = { λ r body begun bytes. GatewayReads (both_spoken r.gateway.now) (gateway_data r.gateway.now) P.test body begun bytes };
 
     ghost calls = { λ r call m. WasAsked (gateway_data r.gateway.now) P.test call.operation m };
 
@@ -115,6 +117,7 @@ impl<'a, P: Patterns> Responder for Crossings<'a, P> {
     ghost alike_stands = { λ r s t x y. (
       y.0,
       subst (λ added. AreStored (gateway_data r.gateway.now).service.table.patterns added) (sym x.0) y.1,
+      y.2,
     ) };
 
     ghost one_asked = { λ r m a b x y. x.1 b y.0 };

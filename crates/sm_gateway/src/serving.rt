@@ -6,7 +6,7 @@ ghost use Rattle.sm_session.specs.Ends.{SessionRun};
 ghost use Rattle.sm_session.specs.Sessions.{turn_limit};
 ghost use Rattle.sm_gateway.specs.GatewayData.{ServesBoth};
 ghost use Rattle.sm_gateway.specs.GatewayTurns.{gateway_turn};
-ghost use Rattle.sm_gateway.specs.GatewayView.{gateway_data};
+ghost use Rattle.sm_gateway.specs.GatewayView.{KeepsBoth, gateway_data};
 
 use crate::gateway::Gateway;
 use crate::laws::each_is_form;
@@ -31,6 +31,7 @@ pub fn serve_session<A: Source, B: Sink, C: Source, D: Sink, P: Patterns>(
     back_out: &mut D,
 ) -> SessionEnd
     requires serves { ServesBoth (gateway_data gateway.now) P.test }
+    requires kept { KeepsBoth gateway.now }
     requires stored { AreStored (gateway_data gateway.now).service.table.patterns (P.added patterns.old) }
     ensures session { SessionRun (gateway_turn (gateway_data gateway.now) P.test) turn_limit
         (link_seen (stream (A.left front_in.old) (A.faults front_in.old)) (stream (B.written front_out.old) (B.faults front_out.old))

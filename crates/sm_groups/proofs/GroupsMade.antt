@@ -32,24 +32,24 @@ apart_tests a b Less e apart = refl
 apart_tests a b Equal e apart = absurd (apart (same_text a b e))
 apart_tests a b Greater e apart = refl
 
-tests : (a b : List ℕ) → is_eq (text_cmp a b) ≡ bytes_eq b a
+pub tests : (a b : List ℕ) → is_eq (text_cmp a b) ≡ bytes_eq b a
 tests a b = elim (cases_Bool (bytes_eq b a)) [
   | inl is ↦ ap is_eq (ap (text_cmp a) ((bytes_eq-Decides b a).0 is) ∙ tie_itself a) ∙ sym is
   | inr not ↦
       apart_tests a b (text_cmp a b) refl (λ e. true≢false (sym ((bytes_eq-Decides b a).1 (sym e)) ∙ not)) ∙ sym not
 ]
 
-ties_tests : (r : Ordering) → (not (is_lt r) && not (is_lt (ordering_reverse r))) ≡ is_eq r
+pub ties_tests : (r : Ordering) → (not (is_lt r) && not (is_lt (ordering_reverse r))) ≡ is_eq r
 ties_tests Less = refl
 ties_tests Equal = refl
 ties_tests Greater = refl
 
-less : (a b : List ℕ) (r : Ordering) → text_cmp a b ≡ r → is_lt (text_cmp b a) ≡ false → bytes_eq a b ≡ false → r ≡ Less
+pub less : (a b : List ℕ) (r : Ordering) → text_cmp a b ≡ r → is_lt (text_cmp b a) ≡ false → bytes_eq a b ≡ false → r ≡ Less
 less a b Less e h apart = refl
 less a b Equal e h apart = absurd (true≢false (sym ((bytes_eq-Decides a b).1 (same_text a b e)) ∙ apart))
 less a b Greater e h apart = absurd (true≢false (sym (ap is_lt (nat_list_cmp_total.antisymm b a ∙ ap ordering_reverse e)) ∙ h))
 
-below_all_of : (a b : List ℕ) (ks : List (List ℕ)) → text_cmp a b ≡ Less → IsBelow b ks → IsBelow a ks
+pub below_all_of : (a b : List ℕ) (ks : List (List ℕ)) → text_cmp a b ≡ Less → IsBelow b ks → IsBelow a ks
 below_all_of a b [] h below = tt
 below_all_of a b (k ∷ ks) h below = (nat_list_cmp_total.trans a b k h below.0, below_all_of a b ks h below.1)
 

@@ -38,7 +38,7 @@ use Rattle.sm_merge.specs.declared.mixins.Contributing.{Contributing}
 use Rattle.sm_merge.specs.declared.parts.BareShape.{BareShape}
 use Rattle.sm_merge.specs.declared.value.Folded.{Folded}
 use Rattle.sm_merge.proofs.FoundRows.{find_joined, find_kept, find_mapped, find_pairs, find_seen, or_mapped, same_key}
-use Rattle.sm_merge.proofs.GroupsMade.{tests}
+use Rattle.sm_groups.proofs.GroupsMade.{tests}
 use Rattle.sm_merge.proofs.OneValue.{one_value}
 
 abbrev pub value_node : Folded → Node

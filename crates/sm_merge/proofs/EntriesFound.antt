@@ -11,7 +11,7 @@ use Rattle.std.proofs.lemmas.Slice.Eq.{bytes_eq-Decides}
 use Rattle.sm_model.specs.Formed.{StandsAmong, DifferInNames}
 use Rattle.sm_model.specs.Graphs.{text_cmp}
 use Rattle.sm_model.proofs.MapFacts.{Each, keys, keys_differ}
-use Rattle.sm_merge.proofs.GroupsMade.{tests}
+use Rattle.sm_groups.proofs.GroupsMade.{tests}
 
 module _ {X : Type 0} where
   -- the value stands under the key

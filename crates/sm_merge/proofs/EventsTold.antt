@@ -24,7 +24,7 @@ use Rattle.sm_merge.specs.steps.Tables.{AreTraitsOf, AreValuesOf, folded_named, 
 use Rattle.sm_merge.specs.declared.table.NamedValue.{NamedValue}
 use Rattle.sm_merge.specs.declared.table.PlaceRow.{PlaceRow}
 use Rattle.sm_merge.specs.declared.value.Folded.{Folded}
-use Rattle.sm_merge.proofs.GroupsMade.{tests}
+use Rattle.sm_groups.proofs.GroupsMade.{tests}
 use Rattle.sm_merge.proofs.OneEffective.{same_some}
 use Rattle.sm_merge.proofs.OneList.{Has, each_has, has_each}
 use Rattle.sm_merge.proofs.PreludeGiven.{none_some}

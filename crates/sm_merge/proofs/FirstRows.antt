@@ -14,7 +14,7 @@ use Rattle.sm_merge.specs.steps.Filling.{AreFirstRows, folded_rows}
 use Rattle.sm_merge.specs.declared.effective.NamedFolded.{NamedFolded}
 use Rattle.sm_merge.specs.declared.value.Folded.{Folded}
 use Rattle.sm_merge.proofs.FoundRows.{here, passed}
-use Rattle.sm_merge.proofs.GroupsMade.{Climb, below_all_of, climbs, comes_before, less, tied_rows}
+use Rattle.sm_groups.proofs.GroupsMade.{Climb, below_all_of, climbs, comes_before, less, tied_rows}
 
 abbrev pub name_of : NamedFolded → List ℕ
 name_of e = e.name.now

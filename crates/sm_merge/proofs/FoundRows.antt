@@ -15,7 +15,7 @@ use Rattle.sm_merge.specs.steps.Filling.{folded_rows}
 use Rattle.sm_merge.specs.steps.Firsts.{NamesAndTargets, firsts}
 use Rattle.sm_merge.specs.declared.effective.NamedFolded.{NamedFolded}
 use Rattle.sm_merge.specs.declared.value.Folded.{Folded}
-use Rattle.sm_merge.proofs.GroupsMade.{tests, tie_itself}
+use Rattle.sm_groups.proofs.GroupsMade.{tests, tie_itself}
 use Rattle.sm_merge.proofs.TablesMade.{AllFound}
 
 pub same_key : (k l : List ℕ) → text_cmp k l ≡ Equal → k ≡ l

@@ -38,7 +38,7 @@ use Rattle.sm_merge.specs.steps.Folding.{AreNodes}
 use Rattle.sm_merge.proofs.EffectiveSound.{GivesNodes, effective_sound, some_left, some_of}
 use Rattle.sm_merge.proofs.EntriesFound.{found_has, has_each, key_has, made_has}
 use Rattle.sm_merge.proofs.Folds.{node_joined}
-use Rattle.sm_merge.proofs.GroupsMade.{tests}
+use Rattle.sm_groups.proofs.GroupsMade.{tests}
 use Rattle.sm_merge.proofs.MeantIds.{meaning_is_id}
 use Rattle.sm_merge.proofs.NodesMeant.{meant_is_node}
 use Rattle.sm_merge.proofs.PreludeGiven.{AreOfPrelude, AreUnderIds, api_text, shapes_are}

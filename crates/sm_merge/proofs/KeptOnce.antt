@@ -11,7 +11,7 @@ use Rattle.sm_merge.specs.steps.EffectiveTables.{by_members, traits_of_member}
 use Rattle.sm_merge.specs.steps.Filling.{folded_rows, is_kept, kept_of}
 use Rattle.sm_merge.specs.declared.effective.MemberTraits.{MemberTraits}
 use Rattle.sm_merge.proofs.FoundRows.{here, passed}
-use Rattle.sm_merge.proofs.GroupsMade.{tests}
+use Rattle.sm_groups.proofs.GroupsMade.{tests}
 
 none_behind : (name : List ℕ) (ms : List MemberTraits) → IsBelow name (map (λ m. m.0) (by_members ms)) → kept_of ms name ≡ []
 none_behind name [] h = refl

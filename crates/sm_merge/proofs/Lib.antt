@@ -10,7 +10,6 @@ mod MeantViews
 mod Bodies
 mod Cuts
 mod Folds
-mod GroupsMade
 mod BodyNodes
 mod NodesMeant
 mod PlacedFound

@@ -11,7 +11,7 @@ use Rattle.std.proofs.lemmas.Option.{get_or_from_slice_get}
 use Rattle.sm_model.specs.Graphs.{text_cmp}
 use Rattle.sm_merge.specs.steps.EffectiveTables.{by_members}
 use Rattle.sm_merge.specs.steps.Filling.{AreFirstRows, FoldedRows, folded_rows, last_first}
-use Rattle.sm_merge.specs.steps.Groups.{AreGroupsOf, all_under, if_under}
+use Rattle.sm_groups.specs.Groups.{AreGroupsOf, all_under, if_under}
 use Rattle.sm_merge.specs.steps.Links.{At}
 use Rattle.sm_merge.specs.steps.MemberLists.{AreMemberTraits, ComeToFirsts, joined_rows, rows_under}
 use Rattle.sm_merge.specs.declared.effective.MemberTraits.{MemberTraits}

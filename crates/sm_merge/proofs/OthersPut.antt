@@ -22,7 +22,7 @@ use Rattle.sm_merge.specs.steps.PlaceEvents.{target_in}
 use Rattle.sm_merge.specs.declared.firsts.NamedTarget.{NamedTarget}
 use Rattle.sm_merge.specs.declared.mixins.Contributing.{Contributing}
 use Rattle.sm_merge.specs.declared.parts.BareShape.{BareShape}
-use Rattle.sm_merge.proofs.GroupsMade.{tests}
+use Rattle.sm_groups.proofs.GroupsMade.{tests}
 
 pub nothing_more : (es : List ModelEvent) → TellsMore es es []
 nothing_more es = record { told = sym (append-nil (events_view es)); errors = λ h. h }

@@ -9,7 +9,7 @@ use Rattle.sm_tree.specs.Node.{Node}
 use Rattle.sm_model.specs.Graphs.{MemberGiven, ShapeGiven, member_id}
 use Rattle.sm_merge.specs.Stated.{Stated, apply_stated, metadata_stated, shape_stated}
 use Rattle.sm_merge.specs.Places.{member_traits_at, traits_at}
-use Rattle.sm_merge.specs.steps.Groups.{all_under, if_under}
+use Rattle.sm_groups.specs.Groups.{all_under, if_under}
 use Rattle.sm_merge.specs.steps.Placed.{TraitLists, placed_by, placed_members}
 use Rattle.sm_merge.specs.steps.Tables.{all_given}
 

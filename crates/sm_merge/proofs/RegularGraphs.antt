@@ -27,7 +27,7 @@ use Rattle.sm_merge.specs.Places.{shape_under, shapes_under}
 use Rattle.sm_merge.specs.Stated.{AreFormedFiles, ShapeStated, Stated, all_said, body_of, defined_among, shape_with_ids, stated}
 use Rattle.sm_merge.specs.Stated.{stated_by}
 use Rattle.sm_merge.proofs.EntriesFound.{found_has, has_found, has_key, key_has}
-use Rattle.sm_merge.proofs.GroupsMade.{tests}
+use Rattle.sm_groups.proofs.GroupsMade.{tests}
 use Rattle.sm_merge.proofs.NamesOnce.{once_differ}
 use Rattle.sm_merge.proofs.StatedSound.{sound_under, statements_sound}
 use Rattle.sm_merge.proofs.WholeGiven.{lacks, valued_if}

@@ -17,7 +17,7 @@ use Rattle.sm_model.specs.steps.Rising.{IsBelow, Rise}
 use Rattle.sm_merge.specs.Merged.{HasOtherShape, IsStatedAgain}
 use Rattle.sm_merge.specs.Places.{Agree, shape_under, shapes_under}
 use Rattle.sm_merge.specs.Stated.{ShapeStated, Stated, apply_stated, metadata_stated, shape_stated}
-use Rattle.sm_merge.specs.steps.Groups.{AreGroupsOf, all_under, if_under}
+use Rattle.sm_groups.specs.Groups.{AreGroupsOf, all_under, if_under}
 use Rattle.sm_merge.specs.steps.Placed.{Bare, bare_by, bare_of, bare_view, bares_view}
 use Rattle.sm_merge.specs.steps.ShapeTables.{AgreeBare, ArePicked, AreShapesFrom, AreShapesOf, AreSoundRows, AreSoundUnder, AreWrong}
 use Rattle.sm_merge.specs.steps.ShapeTables.{IsShapeTable, PutsIf, SomeDiffer}
@@ -25,7 +25,7 @@ use Rattle.sm_merge.specs.steps.ShapeTables.{all_bare, head_alone, ids_of, kept_
 use Rattle.sm_merge.specs.steps.Tables.{HoldGroups}
 use Rattle.sm_merge.specs.declared.parts.BareShape.{BareShape}
 use Rattle.sm_merge.specs.declared.shapes.Shapes.{Shapes}
-use Rattle.sm_merge.proofs.GroupsMade.{found_none, tests}
+use Rattle.sm_groups.proofs.GroupsMade.{found_none, tests}
 use Rattle.sm_merge.proofs.TablesMade.{AllFound, all_found, hold_groups, seen_under}
 
 abbrev Groups : Type 0

@@ -35,7 +35,7 @@ use Rattle.sm_merge.specs.steps.ShapeTables.{AreShapesOf, ids_of, shapes_view}
 use Rattle.sm_merge.specs.steps.Whole.{AreEffective}
 use Rattle.sm_merge.proofs.Ats.{at_mapped, at_one, at_there, at_within, sides}
 use Rattle.sm_merge.proofs.EntriesFound.{each_has, get_has, has_key}
-use Rattle.sm_merge.proofs.GroupsMade.{tests}
+use Rattle.sm_groups.proofs.GroupsMade.{tests}
 use Rattle.sm_merge.proofs.NamesOnce.{once_among, stands_before, stands_behind}
 use Rattle.sm_merge.proofs.OneValue.{one_value}
 use Rattle.sm_merge.proofs.ShapeNumbers.{listed_found, shape_ids}

@@ -15,15 +15,15 @@ use Rattle.sm_model.specs.Given.{AreNodes as ArePairsOfNodes}
 use Rattle.sm_model.specs.Graphs.{text_cmp}
 use Rattle.sm_model.specs.steps.Rising.{IsBelow, Rise}
 use Rattle.sm_merge.specs.steps.Folding.{AreNodes, IsFolded}
-use Rattle.sm_merge.specs.steps.Groups.{AreGroupsOf, all_under, groups_view}
+use Rattle.sm_groups.specs.Groups.{AreGroupsOf, all_under, groups_view}
 use Rattle.sm_merge.specs.steps.Placed.{placed_view}
 use Rattle.sm_merge.specs.steps.Tables.{AreListsOfNodes, ArePlacedNodes, ArePlacesOf, AreValuesOf, ComeToRows, ComeToTraits, HoldGroups}
 use Rattle.sm_merge.specs.steps.Tables.{IsTableOf, all_given, named_view, pairs_views, places_view}
-use Rattle.sm_merge.specs.declared.groups.Group.{Group}
+use Rattle.sm_groups.specs.declared.groups.Group.{Group}
 use Rattle.sm_merge.specs.declared.table.NamedValue.{NamedValue}
 use Rattle.sm_merge.specs.declared.table.PlaceRow.{PlaceRow}
 use Rattle.sm_merge.specs.declared.value.Folded.{Folded}
-use Rattle.sm_merge.proofs.GroupsMade.{tie_itself}
+use Rattle.sm_groups.proofs.GroupsMade.{tie_itself}
 
 -- one more behind others, and then the rest
 pub behind_more : {X Y : Type 0} (f : X → Y) (xs : List X) (x : X) (more : List Y) → map f (xs ++ x ∷ []) ++ more ≡ map f xs ++ f x ∷ more

@@ -11,7 +11,7 @@ use Rattle.sm_model.specs.Graphs.{MemberGiven, text_cmp}
 use Rattle.sm_merge.specs.Stated.{Stated, apply_stated, metadata_stated, shape_stated}
 use Rattle.sm_merge.specs.Places.{metadata_by, trait_values, values_under}
 use Rattle.sm_merge.specs.steps.Folding.{IsFolded}
-use Rattle.sm_merge.specs.steps.Groups.{all_under}
+use Rattle.sm_groups.specs.Groups.{all_under}
 use Rattle.sm_merge.specs.steps.Placed.{AreMembersOfNodes, AreOfNodes, TraitLists, bare_by, placed_by, placed_members}
 use Rattle.sm_merge.specs.steps.ShapeTables.{AreSoundBares}
 use Rattle.sm_merge.specs.steps.Tables.{ArePlacedNodes, ArePlacesOf, AreTraitsOf, ComeToTraits, all_given, folded_named}

@@ -3,7 +3,6 @@ pub mod Meant
 pub mod Cut
 pub mod Folding
 pub mod Rows
-pub mod Groups
 pub mod Placed
 pub mod Tables
 pub mod ShapeTables

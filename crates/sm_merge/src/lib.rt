@@ -15,7 +15,6 @@ mod events_members;
 mod events_places;
 mod firsts;
 mod graph_made;
-mod groups;
 pub mod laws;
 mod limit;
 mod limits;

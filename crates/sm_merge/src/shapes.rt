@@ -4,15 +4,15 @@ ghost use Rattle.sm_tree.specs.Same.{IsNode};
 ghost use Rattle.sm_tree.specs.Size.{node_size};
 ghost use Rattle.sm_tree.specs.View.{node_of};
 ghost use Rattle.sm_bytes.specs.Lengths.{length_word};
-ghost use Rattle.sm_merge.specs.steps.Groups.{group_view};
+ghost use Rattle.sm_groups.specs.Groups.{group_view};
 ghost use Rattle.sm_merge.specs.steps.Placed.{bare_view};
 ghost use Rattle.sm_merge.specs.steps.ShapeTables.{AgreeBare, all_bare, AreAlike, AreSoundRows, AreSoundUnder, AreWrong, kept_of};
 ghost use Rattle.sm_merge.specs.steps.ShapeTables.{AreShapesFrom, PutsIf, SomeDiffer};
 
-use crate::groups::{Group, by_key};
 use crate::parts::BareShape;
 use crate::stated::copied_id;
 use crate::value::are_same;
+use sm_groups::{Group, by_key};
 use sm_ids::ShapeId;
 use sm_model::is_in_prelude;
 use sm_tree::{NoMemory, Text, tree_size};

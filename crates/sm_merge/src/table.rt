@@ -8,8 +8,8 @@ ghost use Rattle.sm_merge.specs.steps.Placed.{placed_view};
 ghost use Rattle.sm_merge.specs.steps.Tables.{all_given, AreListsOfNodes, ArePlacedNodes, ArePlacesOf, AreValuesOf, ComeToTraits};
 ghost use Rattle.sm_merge.specs.steps.Tables.{pairs_views};
 
-use crate::groups::{Group, by_key};
 use crate::value::{Folded, fold_values};
+use sm_groups::{Group, by_key};
 use sm_tree::{NoMemory, Pairs, Text, Tree};
 use std::alloc::Global;
 

@@ -17,6 +17,11 @@ use Rattle.sm_awsjson.specs.Begun.{AwsBegun, aws_state}
 use Rattle.sm_awsjson.specs.Messages.{aws_convention, aws_form}
 use Rattle.sm_awsjson.specs.declared.body.AwsBody.{AwsBody}
 use Rattle.sm_awsjson.specs.declared.version.AwsVersion.{AwsVersion}
+use Rattle.sm_rest.specs.RestForm.{rest_form}
+use Rattle.sm_rest.specs.declared.context.Rest.{Rest}
+use Rattle.sm_rest_read.specs.Begun.{RestBegun, rest_state}
+use Rattle.sm_rest_read.specs.declared.body.RestBody.{RestBody}
+use Rattle.sm_rest_read.proofs.RestBodies.{rest_judged}
 use Rattle.sm_rpc.specs.Begun.{RpcBegun, rpc_state}
 use Rattle.sm_rpc.specs.Messages.{rpc_form}
 use Rattle.sm_rpc.specs.declared.body.RpcBody.{RpcBody}
@@ -47,5 +52,14 @@ rpc_head s head empty o b number begun = (
   subst (λ n. IsHeadFor rpc_form s a_request head empty n) (sym number)
       (head_begun cbor_source cbor_convention rpc_form s any_text a_request head empty [] (rpc_state b) (begun any_text).0
       (begun any_text).1),
+  λ test. (begun test).1,
+)
+
+pub rest_head : (rest : Rest) (s : ServiceData) (head : Head) (empty : Bool) (o : ℕ) (b : RestBody) → o ≡ number_in (rest_state b)
+    → ((test : Test) → IsLive (rest_state b) × RestBegun rest s test a_request b head empty [])
+    → IsHeadFor rest_form s a_request head empty o × ((test : Test) → RestBegun rest s test a_request b head empty [])
+rest_head rest s head empty o b number begun = (
+  subst (λ n. IsHeadFor rest_form s a_request head empty n) (sym number)
+      (rest_judged rest s any_text a_request b head empty [] (begun any_text).0 (begun any_text).1),
   λ test. (begun test).1,
 )

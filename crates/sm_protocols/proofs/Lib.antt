@@ -1,5 +1,6 @@
 mod EachForm
 mod HeadsBegun
-pub mod ProtocolsBuilt
+mod KeptRest
+pub mod ProtocolsServe
 mod ProtocolsTaken
 mod SidesTold

@@ -7,8 +7,6 @@ use Rattle.sm_shapes.specs.Fitting.{Test}
 use Rattle.sm_shapes.specs.declared.values.Value.{Value}
 use Rattle.sm_codec.specs.Conventions.{cbor_convention}
 use Rattle.sm_http.specs.declared.message.Head.{Head}
-use Rattle.sm_http.specs.declared.message.Protocol.{Protocol}
-use Rattle.sm_http.specs.declared.message.Protocol.TheVariants.{AwsJson10, AwsJson11, RpcV2Cbor}
 use Rattle.sm_service.specs.ServiceData.{ServiceData}
 use Rattle.sm_messages.specs.Answers.{AnswersRequest, AnswersResponse}
 use Rattle.sm_messages.specs.Goals.{Asked, a_request, a_response}
@@ -22,19 +20,26 @@ use Rattle.sm_awsjson.specs.Messages.{aws_convention}
 use Rattle.sm_awsjson.specs.declared.body.AwsBody.{AwsBody}
 use Rattle.sm_awsjson.specs.declared.version.AwsVersion.TheVariants.{V10, V11}
 use Rattle.sm_awsjson.proofs.AwsBodies.{aws_takes}
+use Rattle.sm_rest.specs.declared.context.Rest.{Rest}
+use Rattle.sm_rest_read.specs.Begun.{rest_codec, rest_state}
+use Rattle.sm_rest_read.specs.declared.body.RestBody.{RestBody}
+use Rattle.sm_rest_read.proofs.RestBodies.{rest_takes}
 use Rattle.sm_rpc.specs.Begun.{rpc_state}
 use Rattle.sm_rpc.specs.declared.body.RpcBody.{RpcBody}
 use Rattle.sm_rpc.proofs.RpcBodies.{rpc_takes}
 use Rattle.sm_protocols.specs.Forms.{form_of}
+use Rattle.sm_protocols.specs.Kept.{protocol_of}
 use Rattle.sm_protocols.specs.ProtocolBodies.{ProtocolBegun, SomeBegun}
 use Rattle.sm_protocols.specs.declared.body.ProtocolBody.{ProtocolBody}
-use Rattle.sm_protocols.specs.declared.body.ProtocolBody.TheVariants.{Aws, Rpc}
+use Rattle.sm_protocols.specs.declared.body.ProtocolBody.TheVariants.{Aws, Rpc, Rest as OfRest}
+use Rattle.sm_protocols.specs.declared.spoken.Spoken.{Spoken}
+use Rattle.sm_protocols.specs.declared.spoken.Spoken.TheVariants.{AwsJson10, AwsJson11, RestJson1, RpcV2Cbor}
 
-pub some_of : (p q : Protocol) (s : ServiceData) (test : Test) (body b : ProtocolBody) → p ≡ q → body ≡ b → SomeBegun p s test body
+pub some_of : (p q : Spoken) (s : ServiceData) (test : Test) (body b : ProtocolBody) → p ≡ q → body ≡ b → SomeBegun p s test body
     → SomeBegun q s test b
 some_of p q s test body b at is x = subst (λ k. SomeBegun q s test k) is (subst (λ r. SomeBegun r s test body) at x)
 
-pub all_of : (p q : Protocol) (s : ServiceData) (test : Test) (asked : Asked) (body b : ProtocolBody) → p ≡ q → body ≡ b
+pub all_of : (p q : Spoken) (s : ServiceData) (test : Test) (asked : Asked) (body b : ProtocolBody) → p ≡ q → body ≡ b
     → HasAll (ProtocolBegun p s test asked body) → HasAll (ProtocolBegun q s test asked b)
 all_of p q s test asked body b at is x =
     subst (λ k. HasAll (ProtocolBegun q s test asked k)) is (subst (λ r. HasAll (ProtocolBegun r s test asked body)) at x)
@@ -52,35 +57,39 @@ pub takes_rpc : (s : ServiceData) (test : Test) (b : RpcBody) → SomeBegun RpcV
     → MayTake cbor_source (tree_codec cbor_convention s test) (rpc_state b)
 takes_rpc s test b x = rpc_takes s test x.0 b x.1 x.2 x.3 x.4
 
+pub takes_rest : (rest : Rest) (s : ServiceData) (test : Test) (b : RestBody) → SomeBegun (RestJson1 rest) s test (OfRest b)
+    → MayTake json_source (rest_codec rest test) (rest_state b)
+takes_rest rest s test b x = rest_takes rest s test x.0 b x.1 x.2 x.3 x.4
+
 -- what a piece more makes of a body
-abbrev pub BegunOn : Protocol → ServiceData → Test → ProtocolBody → ProtocolBody → List ℕ → Type 0
+abbrev pub BegunOn : Spoken → ServiceData → Test → ProtocolBody → ProtocolBody → List ℕ → Type 0
 BegunOn p s test old now bytes =
     (asked : Asked) (head : Head) (empty : Bool) (come : List ℕ) → ProtocolBegun p s test asked old head empty come
     → ProtocolBegun p s test asked now head empty (come ++ bytes)
 
-pub on_of : (p q : Protocol) (s : ServiceData) (test : Test) (old now a b : ProtocolBody) (bytes : List ℕ) → p ≡ q → old ≡ a → now ≡ b
+pub on_of : (p q : Spoken) (s : ServiceData) (test : Test) (old now a b : ProtocolBody) (bytes : List ℕ) → p ≡ q → old ≡ a → now ≡ b
     → BegunOn q s test a b bytes → BegunOn p s test old now bytes
 on_of p q s test old now a b bytes at is is1 x =
     subst (λ r. BegunOn r s test old now bytes) (sym at)
     (subst (λ k. BegunOn q s test k now bytes) (sym is) (subst (λ k. BegunOn q s test a k bytes) (sym is1) x))
 
 -- what a message comes to of which all bytes have come
-abbrev pub RequestOf : Protocol → ServiceData → Test → ProtocolBody → Result (ℕ × Value) MessageRefusal → Type 0
+abbrev pub RequestOf : Spoken → ServiceData → Test → ProtocolBody → Result (ℕ × Value) MessageRefusal → Type 0
 RequestOf p s test body result =
     OfAll (ProtocolBegun p s test a_request body)
-    (λ head bytes. AnswersRequest (MessageAnswers (form_of p) s test a_request head bytes) result)
+    (λ head bytes. AnswersRequest (MessageAnswers (form_of (protocol_of p)) s test a_request head bytes) result)
 
-pub request_of : (p q : Protocol) (s : ServiceData) (test : Test) (body b : ProtocolBody) (result : Result (ℕ × Value) MessageRefusal)
+pub request_of : (p q : Spoken) (s : ServiceData) (test : Test) (body b : ProtocolBody) (result : Result (ℕ × Value) MessageRefusal)
     → p ≡ q → body ≡ b → RequestOf q s test b result → RequestOf p s test body result
 request_of p q s test body b result at is x =
     subst (λ r. RequestOf r s test body result) (sym at) (subst (λ k. RequestOf q s test k result) (sym is) x)
 
-abbrev pub ResponseOf : Protocol → ServiceData → Test → ProtocolBody → Result Reply MessageRefusal → Type 0
+abbrev pub ResponseOf : Spoken → ServiceData → Test → ProtocolBody → Result Reply MessageRefusal → Type 0
 ResponseOf p s test body result =
     (o : ℕ) → OfAll (ProtocolBegun p s test (a_response o) body)
-    (λ head bytes. AnswersResponse o (MessageAnswers (form_of p) s test (a_response o) head bytes) result)
+    (λ head bytes. AnswersResponse o (MessageAnswers (form_of (protocol_of p)) s test (a_response o) head bytes) result)
 
-pub response_of : (p q : Protocol) (s : ServiceData) (test : Test) (body b : ProtocolBody) (result : Result Reply MessageRefusal)
+pub response_of : (p q : Spoken) (s : ServiceData) (test : Test) (body b : ProtocolBody) (result : Result Reply MessageRefusal)
     → p ≡ q → body ≡ b → ResponseOf q s test b result → ResponseOf p s test body result
 response_of p q s test body b result at is x =
     subst (λ r. ResponseOf r s test body result) (sym at) (subst (λ k. ResponseOf q s test k result) (sym is) x)

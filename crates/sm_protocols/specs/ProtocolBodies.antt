@@ -2,8 +2,6 @@
 use Rattle.std.specs.Prelude.{◌≡◌, ℕ, Bool, List, [], Result, Ok, Err}
 use Rattle.sm_shapes.specs.Fitting.{Test}
 use Rattle.sm_http.specs.declared.message.Head.{Head}
-use Rattle.sm_http.specs.declared.message.Protocol.{Protocol}
-use Rattle.sm_http.specs.declared.message.Protocol.TheVariants.{AwsJson10, AwsJson11, RestJson1, RpcV2Cbor}
 use Rattle.sm_service.specs.ServiceData.{ServiceData}
 use Rattle.sm_messages.specs.Answers.{AtHead, RefusedAs}
 use Rattle.sm_messages.specs.Begun.{operation_of}
@@ -13,23 +11,32 @@ use Rattle.sm_messages.specs.MessageForm.{MessageForm}
 use Rattle.sm_messages.specs.declared.refusal.MessageRefusal.{MessageRefusal}
 use Rattle.sm_awsjson.specs.Begun.{AwsBegun}
 use Rattle.sm_awsjson.specs.declared.version.AwsVersion.TheVariants.{V10, V11}
+use Rattle.sm_rest_read.specs.Begun.{RestBegun}
 use Rattle.sm_rpc.specs.Begun.{RpcBegun}
 use Rattle.sm_protocols.specs.Forms.{form_of}
+use Rattle.sm_protocols.specs.Kept.{protocol_of}
 use Rattle.sm_protocols.specs.declared.body.ProtocolBody.{ProtocolBody}
-use Rattle.sm_protocols.specs.declared.body.ProtocolBody.TheVariants.{Aws, Rpc}
+use Rattle.sm_protocols.specs.declared.body.ProtocolBody.TheVariants.{Aws, Rest, Rpc}
+use Rattle.sm_protocols.specs.declared.spoken.Spoken.{Spoken}
+use Rattle.sm_protocols.specs.declared.spoken.Spoken.TheVariants.{AwsJson10, AwsJson11, RestJson1, RpcV2Cbor}
 
--- it was begun for a message of this head, whose body is empty or not, and these bytes have come to it
-abbrev pub ProtocolBegun : Protocol → ServiceData → Test → Asked → ProtocolBody → Head → Bool → List ℕ → Type 0
+-- it was begun, by what is kept of the service, for a message of this head, whose body is empty or not, and these bytes have come to it
+abbrev pub ProtocolBegun : Spoken → ServiceData → Test → Asked → ProtocolBody → Head → Bool → List ℕ → Type 0
 ProtocolBegun AwsJson10 s test asked (Aws b) head empty bytes = AwsBegun V10 s test asked b head empty bytes
+ProtocolBegun AwsJson10 s test asked (Rest b) head empty bytes = ⊥
 ProtocolBegun AwsJson10 s test asked (Rpc b) head empty bytes = ⊥
 ProtocolBegun AwsJson11 s test asked (Aws b) head empty bytes = AwsBegun V11 s test asked b head empty bytes
+ProtocolBegun AwsJson11 s test asked (Rest b) head empty bytes = ⊥
 ProtocolBegun AwsJson11 s test asked (Rpc b) head empty bytes = ⊥
-ProtocolBegun RestJson1 s test asked b head empty bytes = ⊥
+ProtocolBegun (RestJson1 rest) s test asked (Aws b) head empty bytes = ⊥
+ProtocolBegun (RestJson1 rest) s test asked (Rest b) head empty bytes = RestBegun rest s test asked b head empty bytes
+ProtocolBegun (RestJson1 rest) s test asked (Rpc b) head empty bytes = ⊥
 ProtocolBegun RpcV2Cbor s test asked (Aws b) head empty bytes = ⊥
+ProtocolBegun RpcV2Cbor s test asked (Rest b) head empty bytes = ⊥
 ProtocolBegun RpcV2Cbor s test asked (Rpc b) head empty bytes = RpcBegun s test asked b head empty bytes
 
 -- some bytes have come to it
-abbrev pub SomeBegun : Protocol → ServiceData → Test → ProtocolBody → Type 0
+abbrev pub SomeBegun : Spoken → ServiceData → Test → ProtocolBody → Type 0
 SomeBegun p s test body =
     (asked : Asked) × (head : Head) × (empty : Bool) × (bytes : List ℕ) × ProtocolBegun p s test asked body head empty bytes
 
@@ -38,15 +45,15 @@ abbrev pub IsHeadFor : MessageForm → ServiceData → Asked → Head → Bool �
 IsHeadFor f s asked head empty o = (there : Address) × IsJudged f s asked head empty (addressed there) × (operation_of there ≡ o)
 
 -- a request is begun for its operation, or refused at its head
-abbrev pub BeginsRequest : Protocol → ServiceData → Head → Bool → Result (ℕ × ProtocolBody) MessageRefusal → Type 0
+abbrev pub BeginsRequest : Spoken → ServiceData → Head → Bool → Result (ℕ × ProtocolBody) MessageRefusal → Type 0
 BeginsRequest p s head empty (Ok begun) =
-    IsHeadFor (form_of p) s a_request head empty begun.0
+    IsHeadFor (form_of (protocol_of p)) s a_request head empty begun.0
     × ((test : Test) → ProtocolBegun p s test a_request begun.1 head empty [])
 BeginsRequest p s head empty (Err refusal) =
-    RefusedAs (AtHead (λ r. IsJudged (form_of p) s a_request head empty (refused_at_head r))) refusal
+    RefusedAs (AtHead (λ r. IsJudged (form_of (protocol_of p)) s a_request head empty (refused_at_head r))) refusal
 
 -- so is the response to an operation
-abbrev pub BeginsResponse : Protocol → ServiceData → ℕ → Head → Bool → Result ProtocolBody MessageRefusal → Type 0
+abbrev pub BeginsResponse : Spoken → ServiceData → ℕ → Head → Bool → Result ProtocolBody MessageRefusal → Type 0
 BeginsResponse p s o head empty (Ok body) = (test : Test) → ProtocolBegun p s test (a_response o) body head empty []
 BeginsResponse p s o head empty (Err refusal) =
-    RefusedAs (AtHead (λ r. IsJudged (form_of p) s (a_response o) head empty (refused_at_head r))) refusal
+    RefusedAs (AtHead (λ r. IsJudged (form_of (protocol_of p)) s (a_response o) head empty (refused_at_head r))) refusal

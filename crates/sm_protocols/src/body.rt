@@ -9,11 +9,13 @@ ghost use Rattle.sm_messages.specs.Goals.{Asked, a_request, a_response};
 ghost use Rattle.sm_messages.specs.MessageAnswers.{MessageAnswers};
 ghost use Rattle.sm_messages.specs.Pieces.{HasAll, OfAll};
 ghost use Rattle.sm_protocols.specs.Forms.{form_of};
+ghost use Rattle.sm_protocols.specs.Kept.{IsKeptOf, protocol_of};
 ghost use Rattle.sm_protocols.specs.ProtocolBodies.{ProtocolBegun, SomeBegun};
 
+use crate::spoken::Spoken;
 use sm_awsjson::{AwsBody, AwsJson, AwsVersion};
-use sm_http::Protocol;
 use sm_messages::{MessageRefusal, Reply};
+use sm_rest_read::RestBody;
 use sm_rpc::{Rpc, RpcBody};
 use sm_service::Service;
 use sm_shapes::Patterns;
@@ -34,6 +36,8 @@ pub(crate) const AWS_11: AwsJson = AwsJson {
 pub enum ProtocolBody {
     /// One of AWS JSON, of either version.
     Aws(AwsBody),
+    /// One of restJson1.
+    Rest(RestBody),
     /// One of Smithy RPC v2 CBOR.
     Rpc(RpcBody),
 }
@@ -48,33 +52,41 @@ impl ProtocolBody {
     pub fn piece<P: Patterns>(
         &mut self,
         alloc: Global,
-        protocol: Protocol,
+        spoken: &Spoken,
         service: &Service,
         bytes: &[u8],
         patterns: &mut P,
     ) -> Result<(), NoMemory>
         requires servable { Servable (service_data service.now) }
+        requires kept { IsKeptOf (service_data service.now) spoken.now }
         requires stored { AreStored (service_data service.now).table.patterns (P.added patterns.old) }
-        requires begun { SomeBegun protocol (service_data service.now) P.test self.old }
+        requires begun { SomeBegun spoken.now (service_data service.now) P.test self.old }
         ensures begun { OnOk result ((asked : Asked) (head : Head) (empty : Bool) (come : List ℕ)
-            → ProtocolBegun protocol (service_data service.now) P.test asked self.old head empty come
-            → ProtocolBegun protocol (service_data service.now) P.test asked self.new head empty (come ++ bytes.now)) }
+            → ProtocolBegun spoken.now (service_data service.now) P.test asked self.old head empty come
+            → ProtocolBegun spoken.now (service_data service.now) P.test asked self.new head empty (come ++ bytes.now)) }
         ensures added { P.added patterns.new ≡ P.added patterns.old }
         ensures refused { P.refused patterns.new ≡ P.refused patterns.old }
         ensures refusals { P.refusals patterns.new ≡ P.refusals patterns.old }
     {
-        match protocol {
-            Protocol::AwsJson10 => match self {
+        match spoken {
+            Spoken::AwsJson10 => match self {
                 ProtocolBody::Aws(body) => body.piece(alloc, &AWS_10, service, bytes, patterns),
+                ProtocolBody::Rest(_) => unreachable!(),
                 ProtocolBody::Rpc(_) => unreachable!(),
             },
-            Protocol::AwsJson11 => match self {
+            Spoken::AwsJson11 => match self {
                 ProtocolBody::Aws(body) => body.piece(alloc, &AWS_11, service, bytes, patterns),
+                ProtocolBody::Rest(_) => unreachable!(),
                 ProtocolBody::Rpc(_) => unreachable!(),
             },
-            Protocol::RestJson1 => unreachable!(),
-            Protocol::RpcV2Cbor => match self {
+            Spoken::RestJson1(rest) => match self {
                 ProtocolBody::Aws(_) => unreachable!(),
+                ProtocolBody::Rest(body) => body.piece(alloc, rest, service, bytes, patterns),
+                ProtocolBody::Rpc(_) => unreachable!(),
+            },
+            Spoken::RpcV2Cbor => match self {
+                ProtocolBody::Aws(_) => unreachable!(),
+                ProtocolBody::Rest(_) => unreachable!(),
                 ProtocolBody::Rpc(body) => body.piece(alloc, &Rpc, service, bytes, patterns),
             },
         }
@@ -89,33 +101,43 @@ impl ProtocolBody {
     pub fn finish_request<P: Patterns>(
         self,
         alloc: Global,
-        protocol: Protocol,
+        spoken: &Spoken,
         service: &Service,
         patterns: &mut P,
     ) -> Result<(u32, Value), MessageRefusal>
         requires servable { Servable (service_data service.now) }
+        requires serves { (form_of (protocol_of spoken.now)).serves (service_data service.now) }
+        requires kept { IsKeptOf (service_data service.now) spoken.now }
         requires stored { AreStored (service_data service.now).table.patterns (P.added patterns.old) }
         requires pass { DefaultsPass (service_data service.now).table P.test }
-        requires begun { HasAll (ProtocolBegun protocol (service_data service.now) P.test a_request self) }
-        ensures answers { OfAll (ProtocolBegun protocol (service_data service.now) P.test a_request self)
-            (λ head bytes. AnswersRequest (MessageAnswers (form_of protocol) (service_data service.now) P.test a_request head bytes)
+        requires begun { HasAll (ProtocolBegun spoken.now (service_data service.now) P.test a_request self) }
+        ensures answers { OfAll (ProtocolBegun spoken.now (service_data service.now) P.test a_request self)
+            (λ head bytes. AnswersRequest (MessageAnswers (form_of (protocol_of spoken.now)) (service_data service.now) P.test a_request
+            head bytes)
             result) }
         ensures added { P.added patterns.new ≡ P.added patterns.old }
         ensures refused { P.refused patterns.new ≡ P.refused patterns.old }
         ensures refusals { P.refusals patterns.new ≡ P.refusals patterns.old }
     {
-        match protocol {
-            Protocol::AwsJson10 => match self {
+        match spoken {
+            Spoken::AwsJson10 => match self {
                 ProtocolBody::Aws(body) => body.finish_request(alloc, &AWS_10, service, patterns),
+                ProtocolBody::Rest(_) => unreachable!(),
                 ProtocolBody::Rpc(_) => unreachable!(),
             },
-            Protocol::AwsJson11 => match self {
+            Spoken::AwsJson11 => match self {
                 ProtocolBody::Aws(body) => body.finish_request(alloc, &AWS_11, service, patterns),
+                ProtocolBody::Rest(_) => unreachable!(),
                 ProtocolBody::Rpc(_) => unreachable!(),
             },
-            Protocol::RestJson1 => unreachable!(),
-            Protocol::RpcV2Cbor => match self {
+            Spoken::RestJson1(rest) => match self {
                 ProtocolBody::Aws(_) => unreachable!(),
+                ProtocolBody::Rest(body) => body.finish_request(alloc, rest, service, patterns),
+                ProtocolBody::Rpc(_) => unreachable!(),
+            },
+            Spoken::RpcV2Cbor => match self {
+                ProtocolBody::Aws(_) => unreachable!(),
+                ProtocolBody::Rest(_) => unreachable!(),
                 ProtocolBody::Rpc(body) => body.finish_request(alloc, &Rpc, service, patterns),
             },
         }
@@ -130,33 +152,43 @@ impl ProtocolBody {
     pub fn finish_response<P: Patterns>(
         self,
         alloc: Global,
-        protocol: Protocol,
+        spoken: &Spoken,
         service: &Service,
         patterns: &mut P,
     ) -> Result<Reply, MessageRefusal>
         requires servable { Servable (service_data service.now) }
+        requires serves { (form_of (protocol_of spoken.now)).serves (service_data service.now) }
+        requires kept { IsKeptOf (service_data service.now) spoken.now }
         requires stored { AreStored (service_data service.now).table.patterns (P.added patterns.old) }
         requires pass { DefaultsPass (service_data service.now).table P.test }
-        requires begun { (o : ℕ) × HasAll (ProtocolBegun protocol (service_data service.now) P.test (a_response o) self) }
-        ensures answers { (o : ℕ) → OfAll (ProtocolBegun protocol (service_data service.now) P.test (a_response o) self)
-            (λ head bytes. AnswersResponse o (MessageAnswers (form_of protocol) (service_data service.now) P.test (a_response o) head bytes)
+        requires begun { (o : ℕ) × HasAll (ProtocolBegun spoken.now (service_data service.now) P.test (a_response o) self) }
+        ensures answers { (o : ℕ) → OfAll (ProtocolBegun spoken.now (service_data service.now) P.test (a_response o) self)
+            (λ head bytes. AnswersResponse o (MessageAnswers (form_of (protocol_of spoken.now)) (service_data service.now) P.test
+            (a_response o) head bytes)
             result) }
         ensures added { P.added patterns.new ≡ P.added patterns.old }
         ensures refused { P.refused patterns.new ≡ P.refused patterns.old }
         ensures refusals { P.refusals patterns.new ≡ P.refusals patterns.old }
     {
-        match protocol {
-            Protocol::AwsJson10 => match self {
+        match spoken {
+            Spoken::AwsJson10 => match self {
                 ProtocolBody::Aws(body) => body.finish_response(alloc, &AWS_10, service, patterns),
+                ProtocolBody::Rest(_) => unreachable!(),
                 ProtocolBody::Rpc(_) => unreachable!(),
             },
-            Protocol::AwsJson11 => match self {
+            Spoken::AwsJson11 => match self {
                 ProtocolBody::Aws(body) => body.finish_response(alloc, &AWS_11, service, patterns),
+                ProtocolBody::Rest(_) => unreachable!(),
                 ProtocolBody::Rpc(_) => unreachable!(),
             },
-            Protocol::RestJson1 => unreachable!(),
-            Protocol::RpcV2Cbor => match self {
+            Spoken::RestJson1(rest) => match self {
                 ProtocolBody::Aws(_) => unreachable!(),
+                ProtocolBody::Rest(body) => body.finish_response(alloc, rest, service, patterns),
+                ProtocolBody::Rpc(_) => unreachable!(),
+            },
+            Spoken::RpcV2Cbor => match self {
+                ProtocolBody::Aws(_) => unreachable!(),
+                ProtocolBody::Rest(_) => unreachable!(),
                 ProtocolBody::Rpc(body) => body.finish_response(alloc, &Rpc, service, patterns),
             },
         }

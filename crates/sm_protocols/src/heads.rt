@@ -3,40 +3,32 @@ ghost use Rattle.std.specs.Prelude.{◌≡◌, ◌<◌, IfOk, length};
 ghost use Rattle.sm_service.specs.Servable.{Servable};
 ghost use Rattle.sm_service.specs.ServiceView.{service_data};
 ghost use Rattle.sm_messages.specs.HeadAnswers.{IsNamed};
-ghost use Rattle.sm_protocols.specs.Forms.{form_of, is_built as is_built_so};
+ghost use Rattle.sm_messages.specs.IsForm.{ServesOperation};
+ghost use Rattle.sm_protocols.specs.Forms.{form_of};
+ghost use Rattle.sm_protocols.specs.Kept.{IsKeptOf, protocol_of};
 ghost use Rattle.sm_protocols.specs.ProtocolBodies.{BeginsRequest, BeginsResponse};
 
 use crate::body::{AWS_10, AWS_11, ProtocolBody};
-use sm_http::{Head, Protocol};
+use crate::spoken::Spoken;
+use sm_http::Head;
 use sm_messages::MessageRefusal;
+use sm_rest_read::{begin_request as begin_rest_request, begin_response as begin_rest_response};
 use sm_rpc::Rpc;
 use sm_service::Service;
 use sm_tree::{NoMemory, Text};
 use std::alloc::Global;
 
-/// Whether messages of the protocol are read and written yet: where they are, it serves each servable service. No memory.
-pub fn is_built(protocol: Protocol) -> bool
-    ensures { result ≡ is_built_so protocol }
-{
-    match protocol {
-        Protocol::AwsJson10 => true,
-        Protocol::AwsJson11 => true,
-        Protocol::RestJson1 => false,
-        Protocol::RpcV2Cbor => true,
-    }
-}
-
 /// The number of the operation that a request's head asks for, served or not. No memory.
-pub fn operation_of(protocol: Protocol, service: &Service, head: &Head) -> Option<u32>
+pub fn operation_of(spoken: &Spoken, service: &Service, head: &Head) -> Option<u32>
     requires servable { Servable (service_data service.now) }
-    requires built { (form_of protocol).serves (service_data service.now) }
-    ensures { IsNamed (form_of protocol) (service_data service.now) head.now result }
+    requires kept { IsKeptOf (service_data service.now) spoken.now }
+    ensures { IsNamed (form_of (protocol_of spoken.now)) (service_data service.now) head.now result }
 {
-    match protocol {
-        Protocol::AwsJson10 => AWS_10.operation_of(service, head),
-        Protocol::AwsJson11 => AWS_11.operation_of(service, head),
-        Protocol::RestJson1 => unreachable!(),
-        Protocol::RpcV2Cbor => Rpc.operation_of(service, head),
+    match spoken {
+        Spoken::AwsJson10 => AWS_10.operation_of(service, head),
+        Spoken::AwsJson11 => AWS_11.operation_of(service, head),
+        Spoken::RestJson1(rest) => rest.operation_of(service, head),
+        Spoken::RpcV2Cbor => Rpc.operation_of(service, head),
     }
 }
 
@@ -46,19 +38,21 @@ pub fn operation_of(protocol: Protocol, service: &Service, head: &Head) -> Optio
 ///
 /// `NoMemory`.
 pub fn restriction(
-    protocol: Protocol,
+    alloc: Global,
+    spoken: &Spoken,
     service: &Service,
     operation: u32,
 ) -> Result<Option<Text>, NoMemory>
+    requires servable { Servable (service_data service.now) }
     requires number { operation < length (service_data service.now).operations }
-    requires built { (form_of protocol).serves (service_data service.now) }
-    ensures { IfOk result (λ path. path ≡ (form_of protocol).restriction (service_data service.now) operation) }
+    ensures { IfOk result (λ path. path
+        ≡ (form_of (protocol_of spoken.now)).restriction (service_data service.now) operation) }
 {
-    match protocol {
-        Protocol::AwsJson10 => AWS_10.restriction(service, operation),
-        Protocol::AwsJson11 => AWS_11.restriction(service, operation),
-        Protocol::RestJson1 => unreachable!(),
-        Protocol::RpcV2Cbor => Rpc.restriction(service, operation),
+    match spoken {
+        Spoken::AwsJson10 => AWS_10.restriction(service, operation),
+        Spoken::AwsJson11 => AWS_11.restriction(service, operation),
+        Spoken::RestJson1(rest) => rest.restriction(alloc, service, operation),
+        Spoken::RpcV2Cbor => Rpc.restriction(service, operation),
     }
 }
 
@@ -69,65 +63,73 @@ pub fn restriction(
 /// `Protocol`, `UnknownOperation`, `Unserved`, `MediaType`, in this order; `NoMemory`.
 pub fn begin_request(
     alloc: Global,
-    protocol: Protocol,
+    spoken: &Spoken,
     service: &Service,
     head: &Head,
     empty: bool,
 ) -> Result<(u32, ProtocolBody), MessageRefusal>
     requires servable { Servable (service_data service.now) }
-    requires built { (form_of protocol).serves (service_data service.now) }
-    ensures { BeginsRequest protocol (service_data service.now) head.now empty result }
+    requires kept { IsKeptOf (service_data service.now) spoken.now }
+    ensures { BeginsRequest spoken.now (service_data service.now) head.now empty result }
 {
-    match protocol {
-        Protocol::AwsJson10 => match AWS_10.begin_request(alloc, service, head, empty) {
+    match spoken {
+        Spoken::AwsJson10 => match AWS_10.begin_request(alloc, service, head, empty) {
             Ok(body) => Ok((body.operation(), ProtocolBody::Aws(body))),
             Err(refusal) => Err(refusal),
         },
-        Protocol::AwsJson11 => match AWS_11.begin_request(alloc, service, head, empty) {
+        Spoken::AwsJson11 => match AWS_11.begin_request(alloc, service, head, empty) {
             Ok(body) => Ok((body.operation(), ProtocolBody::Aws(body))),
             Err(refusal) => Err(refusal),
         },
-        Protocol::RestJson1 => unreachable!(),
-        Protocol::RpcV2Cbor => match Rpc.begin_request(alloc, service, head, empty) {
+        Spoken::RestJson1(rest) => match begin_rest_request(alloc, rest, service, head, empty) {
+            Ok(body) => Ok((body.operation(), ProtocolBody::Rest(body))),
+            Err(refusal) => Err(refusal),
+        },
+        Spoken::RpcV2Cbor => match Rpc.begin_request(alloc, service, head, empty) {
             Ok(body) => Ok((body.operation(), ProtocolBody::Rpc(body))),
             Err(refusal) => Err(refusal),
         },
     }
 }
 
-/// Begins to read the response to an operation with this head, whose body is empty or not.
+/// Begins to read the response to an operation that the protocol serves with this head, whose body is empty or not.
 ///
 /// # Errors
 ///
 /// `Protocol`, `MediaType`, `UnknownError` where the head names the error, in this order; `NoMemory`.
 pub fn begin_response(
     alloc: Global,
-    protocol: Protocol,
+    spoken: &Spoken,
     service: &Service,
     operation: u32,
     head: &Head,
     empty: bool,
 ) -> Result<ProtocolBody, MessageRefusal>
     requires servable { Servable (service_data service.now) }
-    requires built { (form_of protocol).serves (service_data service.now) }
-    requires number { operation < length (service_data service.now).operations }
-    ensures { BeginsResponse protocol (service_data service.now) operation head.now empty result }
+    requires kept { IsKeptOf (service_data service.now) spoken.now }
+    requires served { ServesOperation (form_of (protocol_of spoken.now)) (service_data service.now) operation }
+    ensures { BeginsResponse spoken.now (service_data service.now) operation head.now empty result }
 {
-    match protocol {
-        Protocol::AwsJson10 => {
+    match spoken {
+        Spoken::AwsJson10 => {
             match AWS_10.begin_response(alloc, service, operation, head, empty) {
                 Ok(body) => Ok(ProtocolBody::Aws(body)),
                 Err(refusal) => Err(refusal),
             }
         }
-        Protocol::AwsJson11 => {
+        Spoken::AwsJson11 => {
             match AWS_11.begin_response(alloc, service, operation, head, empty) {
                 Ok(body) => Ok(ProtocolBody::Aws(body)),
                 Err(refusal) => Err(refusal),
             }
         }
-        Protocol::RestJson1 => unreachable!(),
-        Protocol::RpcV2Cbor => match Rpc.begin_response(alloc, service, operation, head, empty) {
+        Spoken::RestJson1(rest) => {
+            match begin_rest_response(alloc, rest, service, operation, head, empty) {
+                Ok(body) => Ok(ProtocolBody::Rest(body)),
+                Err(refusal) => Err(refusal),
+            }
+        }
+        Spoken::RpcV2Cbor => match Rpc.begin_response(alloc, service, operation, head, empty) {
             Ok(body) => Ok(ProtocolBody::Rpc(body)),
             Err(refusal) => Err(refusal),
         },

@@ -11,4 +11,5 @@ pub fn each_is_form()
     sm_cbor::laws::one_answer();
     sm_cbor::laws::some_answer();
     sm_cbor::laws::written_is_item();
+    sm_rest_laws::is_form();
 }

@@ -5,7 +5,7 @@ ghost use Rattle.sm_shapes.specs.InOrder.{AreStored};
 ghost use Rattle.sm_doors.specs.DoorsSeen.{IsPhase};
 ghost use Rattle.sm_doors.specs.declared.doors.Phase.TheVariants.{Lent, Open};
 ghost use Rattle.sm_gateway.specs.GatewayData.{ServesBoth};
-ghost use Rattle.sm_gateway.specs.GatewayView.{gateway_data};
+ghost use Rattle.sm_gateway.specs.GatewayView.{KeepsBoth, gateway_data};
 ghost use Rattle.sm_serve.specs.Links.{ServesLinks};
 ghost use Rattle.sm_serve.specs.steps.LinkSteps.{ServesLink, all_status as the_all_status, short_after as is_short_after};
 
@@ -26,6 +26,7 @@ fn serve_link<D: Doors, P: Patterns>(
     link: Link<D::FrontIn, D::FrontOut, D::BackIn, D::BackOut>,
 ) -> SessionEnd
     requires serves { ServesBoth (gateway_data gateway.now) P.test }
+    requires kept { KeepsBoth gateway.now }
     requires stored { AreStored (gateway_data gateway.now).service.table.patterns (P.added patterns.old) }
     requires lent { IsPhase (D.seen doors.old) Lent }
     ensures link { ServesLink (gateway_data gateway.now) P.test (link_seen
@@ -107,6 +108,7 @@ pub fn serve_links<D: Doors, P: Patterns>(
     count: u64,
 ) -> u8
     requires serves { ServesBoth (gateway_data gateway.now) P.test }
+    requires kept { KeepsBoth gateway.now }
     requires stored { AreStored (gateway_data gateway.now).service.table.patterns (P.added patterns.old) }
     requires open { IsPhase (D.seen doors.old) Open }
     ensures links { ServesLinks (gateway_data gateway.now) P.test (D.seen doors.old) (D.seen doors.new)

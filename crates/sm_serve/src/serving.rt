@@ -8,7 +8,7 @@ ghost use Rattle.sm_asked.specs.CommandAsked.{OnlyAdds};
 ghost use Rattle.sm_doors.specs.DoorsSeen.{IsPhase};
 ghost use Rattle.sm_doors.specs.declared.doors.Phase.TheVariants.{Shut};
 ghost use Rattle.sm_gateway.specs.GatewayData.{ServesBoth};
-ghost use Rattle.sm_gateway.specs.GatewayView.{gateway_data};
+ghost use Rattle.sm_gateway.specs.GatewayView.{KeepsBoth, gateway_data};
 ghost use Rattle.sm_serve.specs.ServeView.{serve_said};
 ghost use Rattle.sm_serve.specs.ServeWords.{LetsLinks, LetsServe};
 ghost use Rattle.sm_serve.specs.Serves.{ListensAndServes, Serves};
@@ -33,6 +33,7 @@ fn listen_and_serve<D: Doors, P: Patterns>(
     patterns: &mut P,
 ) -> u8
     requires serves { ServesBoth (gateway_data gateway.now) P.test }
+    requires kept { KeepsBoth gateway.now }
     requires stored { AreStored (gateway_data gateway.now).service.table.patterns (P.added patterns.old) }
     requires lets { D.lets doors.old words.listen.now words.connect.now }
     requires shut { IsPhase (D.seen doors.old) Shut }

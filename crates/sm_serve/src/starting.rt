@@ -6,7 +6,7 @@ ghost use Rattle.sm_shapes.specs.InOrder.{AreStored};
 ghost use Rattle.sm_compile.specs.Answers.{seen_store};
 ghost use Rattle.sm_asked.specs.CommandAsked.{OnlyAdds};
 ghost use Rattle.sm_gateway.specs.GatewayData.{ServesBoth};
-ghost use Rattle.sm_gateway.specs.GatewayView.{gateway_data};
+ghost use Rattle.sm_gateway.specs.GatewayView.{KeepsBoth, gateway_data};
 ghost use Rattle.sm_serve.specs.ServeWords.{LetsServe};
 ghost use Rattle.sm_serve.specs.Starts.{Starts};
 ghost use Rattle.sm_serve.specs.steps.StopStatuses.{stop_status as the_stop_status};
@@ -53,6 +53,7 @@ pub fn start<F: Files, P: Patterns>(
         P.test (seen_store (P.added patterns.old) (P.refused patterns.old) (P.refusals patterns.old))
         (seen_store (P.added patterns.new) (P.refused patterns.new) (P.refusals patterns.new)) result }
     ensures serves { IfOk result (λ gateway. ServesBoth (gateway_data gateway) P.test) }
+    ensures kept { IfOk result KeepsBoth }
     ensures stored { IfOk result (λ gateway. AreStored (gateway_data gateway).service.table.patterns (P.added patterns.new)) }
     ensures held { F.held files.new ≡ F.held files.old }
     ensures read_faults { F.read_faults files.old ≤ F.read_faults files.new }

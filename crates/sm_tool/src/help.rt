@@ -87,7 +87,7 @@ sm_tool cross MODEL.. SERVICE FRONT BACK HOST BACKFILE OUTFILE
 
 MODEL        a model file: the JSON AST where its name ends in .json, else the IDL; 64 at most
 SERVICE      the id of a service of the model, as shop#Shop
-FRONT, BACK  awsJson1_0, awsJson1_1 or rpcv2Cbor; restJson1 is a word here, but no service is served in it yet
+FRONT, BACK  awsJson1_0, awsJson1_1, restJson1 or rpcv2Cbor
 HOST         the host that requests to the back name: 1 to 255 visible characters of ASCII
 
     $ sm_tool cross shop.smithy shop#Shop awsJson1_1 rpcv2Cbor back.example answers requests < session
@@ -148,7 +148,7 @@ sm_tool serve MODEL.. SERVICE FRONT BACK HOST LISTEN CONNECT COUNT
 
 MODEL        a model file: the JSON AST where its name ends in .json, else the IDL; 64 at most
 SERVICE      the id of a service of the model, as shop#Shop
-FRONT, BACK  awsJson1_0, awsJson1_1 or rpcv2Cbor; restJson1 is a word here, but no service is served in it yet
+FRONT, BACK  awsJson1_0, awsJson1_1, restJson1 or rpcv2Cbor
 HOST         the host that requests to the back name: 1 to 255 visible characters of ASCII
 LISTEN       the address to listen on, as 127.0.0.1:8080, [::1]:8080 or localhost:0 (a port of 0 is chosen, and told on standard error)
 CONNECT      the address of the back

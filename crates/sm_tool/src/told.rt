@@ -172,7 +172,6 @@ pub fn said_of_words(line: &str) -> Option<Said<'_>> {
     match word {
         "NoShape" => Some(Said::plain(rest, "the model has no shape of this id that has values")),
         "NoService" => Some(Said::plain(rest, "the model has no service of this id")),
-        "Unbuilt" => Some(Said::plain(rest, "messages of this protocol can't be read yet")),
         "Unserved" => Some(Said::plain(
             rest,
             "values of the shape can't be carried, because of what stands here",

@@ -8,27 +8,23 @@ use Rattle.sm_io.specs.Writing.{AppendsPrefix}
 use Rattle.sm_io.specs.declared.files.FileRefusal.{FileRefusal}
 use Rattle.sm_io.specs.declared.files.FileRefusal.TheVariants.{Failed, TooLong, NoMemory as no_room}
 use Rattle.sm_shapes.specs.Fitting.{Test}
-use Rattle.sm_http.specs.declared.message.Protocol.{Protocol}
 use Rattle.sm_compile.specs.Answers.{StoreSeen}
 use Rattle.sm_service.specs.ServiceData.{ServiceData}
 use Rattle.sm_session.specs.Sessions.{SessionSaid, flat}
 use Rattle.sm_session.specs.declared.session_end.SessionEnd.{SessionEnd}
 use Rattle.sm_session.specs.declared.session_end.SessionEnd.TheVariants.{Closed, Quota, FrontEnded, BackEnded, FrontFraming, BackFraming}
 use Rattle.sm_session.specs.declared.session_end.SessionEnd.TheVariants.{FrontRead, FrontWrite, BackRead, BackWrite, NoMemory}
-use Rattle.sm_asked.specs.Answer.{Answer, past, refused}
 use Rattle.sm_asked.specs.Comes.{StepStops}
 use Rattle.sm_asked.specs.Limits.{file_limit}
-use Rattle.sm_asked.specs.Lines.{file_limit_line}
-use Rattle.sm_asked.specs.Stages.{FileTooLong, told}
+use Rattle.sm_asked.specs.Stages.{told}
 use Rattle.sm_asked.specs.declared.status.Status.{Status}
 use Rattle.sm_asked.specs.declared.status.Status.TheVariants.{WriteFault, NoMemory as ends_by_memory}
 use Rattle.sm_asked.specs.declared.stop.CommandStop.{CommandStop}
+use Rattle.sm_asked.specs.steps.FileSteps.{PassesLimit}
 use Rattle.sm_asked_service.specs.LoadsService.{StopsBefore}
 use Rattle.sm_gateway.specs.GatewayData.{GatewayData}
 use Rattle.sm_gateway.specs.GatewayTurns.{Session}
 use Rattle.sm_gateway.specs.GatewayView.{gateway_data}
-use Rattle.sm_asked_gateway.specs.GatewayAnswers.{unbuilt_line}
-use Rattle.sm_asked_gateway.specs.GatewayStages.{first_unbuilt}
 use Rattle.sm_cross_command.specs.Cross.{CrossAnswers, end_status}
 use Rattle.sm_cross_command.specs.CrossStages.{CrossOpens, gateway_of}
 use Rattle.sm_cross_command.specs.CrossWords.{CrossAsked}
@@ -36,22 +32,16 @@ use Rattle.sm_cross_command.specs.declared.cross.Opened.{Opened}
 
 -- ---- what stands before a session
 
--- a service that was compiled has no gateway, or the back's file is too long
-pub data BackSays (files : Option Folder) (w : CrossAsked) (a : Answer) : Type 0 where
-  without : (protocol : Protocol) → first_unbuilt w.front w.back ≡ Some protocol → a ≡ refused (unbuilt_line protocol)
-      → BackSays files w a
-  beyond : first_unbuilt w.front w.back ≡ None → FileTooLong files w.back_file → a ≡ past file_limit_line → BackSays files w a
-
 -- a gateway of the service, and the bytes of the back
 pub record IsOpened (files : Option Folder) (w : CrossAsked) (s : ServiceData) (o : Opened) : Type 0 where
-  pub built : first_unbuilt w.front w.back ≡ None
   pub held : Holds files w.back_file (Some o.back.items)
   pub within : length o.back.items ≤ file_limit
   pub gateway : Path GatewayData (gateway_data o.gateway) (record { service = s; front = w.front; back = w.back; host = w.host })
 
 abbrev pub OpensService : FilesSeen → FilesSeen → CrossAsked → ServiceData → Result Opened CommandStop → Type 0
 OpensService files files1 w s (Ok o) = IsOpened files.held w s o
-OpensService files files1 w s (Err stop) = StepStops (BackSays files.held w) (Rose files.read_faults files1.read_faults) (Unit {0}) stop
+OpensService files files1 w s (Err stop) = StepStops (PassesLimit files.held w.back_file) (Rose files.read_faults files1.read_faults)
+    (Unit {0}) stop
 
 -- the session may begin, with this gateway and these bytes of the back
 pub record IsOpenedCross (files : FilesSeen) (test : Test) (store : StoreSeen) (w : CrossAsked) (input : Option (List ℕ)) (o : Opened)

@@ -28,6 +28,7 @@ use Rattle.sm_messages.specs.declared.refusal.MessageRefusal.TheVariants.{Unknow
 use Rattle.sm_messages.specs.declared.refusal.MessageRefusal.TheVariants.{NoMemory as OutOfMemory}
 use Rattle.sm_messages.specs.declared.reply.Reply.{Reply as MessageReply}
 use Rattle.sm_protocols.specs.ProtocolBodies.{ProtocolBegun}
+use Rattle.sm_protocols.specs.declared.spoken.Spoken.{Spoken}
 use Rattle.sm_gateway.specs.Answers.{IsSaid}
 use Rattle.sm_gateway.specs.GatewayData.{GatewayData, ServesBoth, back_form, front_form}
 use Rattle.sm_gateway.specs.GatewayTurns.{GatewayAsks, GatewayReplies, RequestCrosses}
@@ -35,6 +36,7 @@ use Rattle.sm_gateway.specs.RefusalAnswers.{back_refusal_answer, refusal_answer}
 use Rattle.sm_gateway.specs.declared.body.GatewayBody.{GatewayBody}
 use Rattle.sm_gateway.specs.declared.body.GatewayBody.TheVariants.{Refused, Reply, Request}
 use Rattle.sm_gateway.specs.declared.body.GatewayCall.{GatewayCall}
+use Rattle.sm_gateway.specs.declared.gateway.Gateway.{Gateway}
 
 -- both forms read messages
 pub record ReadsBoth (g : GatewayData) : Type 0 where
@@ -82,16 +84,24 @@ abbrev pub AnswersAsked : GatewayData → Test → Option Message → Type 0
 AnswersAsked g test None = Unit {0}
 AnswersAsked g test (Some m) = (o : ℕ) × WasAsked g test o m
 
+-- what is kept of the service for the protocols of both sides
+pub record BothSpoken : Type 0 where
+  pub front : Spoken
+  pub back : Spoken
+
+abbrev pub both_spoken : Gateway → BothSpoken
+both_spoken g = record { front = g.front; back = g.back }
+
 -- what was read of a message
-abbrev pub GatewayReads : GatewayData → Test → GatewayBody → Begun → List ℕ → Type 0
-GatewayReads g test (Refused refusal) begun bytes =
+abbrev pub GatewayReads : BothSpoken → GatewayData → Test → GatewayBody → Begun → List ℕ → Type 0
+GatewayReads both g test (Refused refusal) begun bytes =
     AnswersAsked g test begun.request × (r : Refusal) × IsSaid refusal r × StaysAtHead g test begun r
-GatewayReads g test (Request body) begun bytes =
+GatewayReads both g test (Request body) begun bytes =
     (begun.request ≡ None) × IsAdmitted (front_form g) (back_form g) g.service a_request begun.head
-    × ProtocolBegun g.front g.service test a_request body begun.head begun.empty bytes
-GatewayReads g test (Reply o body) begun bytes =
+    × ProtocolBegun both.front g.service test a_request body begun.head begun.empty bytes
+GatewayReads both g test (Reply o body) begun bytes =
     (m : Message) × (begun.request ≡ Some m) × WasAsked g test o m
-    × ProtocolBegun g.back g.service test (a_response o) body begun.head begun.empty bytes
+    × ProtocolBegun both.back g.service test (a_response o) body begun.head begun.empty bytes
 
 -- a value of a goal is put to a far end, or isn't carried there, and that is answered
 abbrev pub AsksFor : MessageForm → ServiceData → List ℕ → Goal → Val → List ℕ → List ℕ → Result (Turn GatewayCall) NoMemory → Type 0

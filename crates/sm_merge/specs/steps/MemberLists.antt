@@ -5,7 +5,7 @@ use Rattle.std.specs.List.{flat_map}
 use Rattle.sm_model.specs.steps.Rising.{Rise}
 use Rattle.sm_merge.specs.steps.EffectiveTables.{by_members, traits_of_member}
 use Rattle.sm_merge.specs.steps.Filling.{AreFirstRows, FoldedRows, folded_rows}
-use Rattle.sm_merge.specs.steps.Groups.{all_under}
+use Rattle.sm_groups.specs.Groups.{all_under}
 use Rattle.sm_merge.specs.steps.Links.{At}
 use Rattle.sm_merge.specs.steps.Tables.{ComeToRows}
 use Rattle.sm_merge.specs.declared.effective.MemberTraits.{MemberTraits}

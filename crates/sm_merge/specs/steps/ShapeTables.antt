@@ -10,7 +10,7 @@ use Rattle.sm_model.specs.steps.Rising.{Rise}
 use Rattle.sm_merge.specs.Merged.{HasOtherShape, IsStatedAgain}
 use Rattle.sm_merge.specs.Places.{shape_under}
 use Rattle.sm_merge.specs.Stated.{Stated}
-use Rattle.sm_merge.specs.steps.Groups.{AreGroupsOf}
+use Rattle.sm_groups.specs.Groups.{AreGroupsOf}
 use Rattle.sm_merge.specs.steps.Placed.{Bare, bare_of, bare_view, bares_view}
 use Rattle.sm_merge.specs.declared.parts.BareShape.{BareShape}
 use Rattle.sm_merge.specs.declared.shapes.Shapes.{Shapes}

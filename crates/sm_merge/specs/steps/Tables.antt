@@ -12,7 +12,7 @@ use Rattle.sm_model.specs.steps.Rising.{Rise}
 use Rattle.sm_merge.specs.Places.{trait_values}
 use Rattle.sm_merge.specs.Stated.{Stated}
 use Rattle.sm_merge.specs.steps.Folding.{IsFolded}
-use Rattle.sm_merge.specs.steps.Groups.{all_under}
+use Rattle.sm_groups.specs.Groups.{all_under}
 use Rattle.sm_merge.specs.steps.Placed.{TraitLists}
 use Rattle.sm_merge.specs.declared.value.Folded.{Folded}
 use Rattle.sm_merge.specs.declared.table.NamedValue.{NamedValue}

@@ -15,6 +15,7 @@ use Rattle.sm_cross_command.proofs.cross.cross.Goals as goal
 pub run_opened-requires : goal.run_opened-requires
 run_opened-requires g c = record {
   serves = c.in-Ok.ensures.serves;
+  kept = c.in-Ok.ensures.kept;
   stored = c.in-Ok.ensures.stored;
   writes = (c.open.ensures.same_writes c.args.words.out_file.now).0 c.requires.writes;
 }

@@ -3,17 +3,19 @@ use Rattle.sm_shapes.specs.ValueView.{val_of}
 use Rattle.sm_service.specs.ServiceView.{service_data}
 use Rattle.sm_messages.specs.Goals.{goal_of, the_input}
 use Rattle.sm_protocols.specs.Forms.{form_of}
+use Rattle.sm_protocols.specs.Kept.{protocol_of}
 use Rattle.sm_gateway.proofs.ValuesCarried.{carried_of, not_carried_of, refused_uncarried}
 use Rattle.sm_gateway.proofs.carrying.ask_whole.Goals as goal
 
 pub write_request-requires-clause-carried : goal.write_request-requires-clause-carried
 write_request-requires-clause-carried c =
-    carried_of (form_of c.args.gateway.now.back) (service_data c.args.gateway.now.service) (goal_of c.args.operation the_input)
+    carried_of (form_of (protocol_of c.args.gateway.now.back)) (service_data c.args.gateway.now.service)
+    (goal_of c.args.operation the_input)
     (val_of c.args.value.now) (sym c.in-Ok-None.field-0-is ∙ c.in-Ok-None.ensures)
 
 pub returns-in-Ok : goal.returns-in-Ok
 returns-in-Ok c =
-    let far = form_of c.args.gateway.now.back in
+    let far = form_of (protocol_of c.args.gateway.now.back) in
     let s = service_data c.args.gateway.now.service in
     let g = goal_of c.args.operation the_input in
     let v = val_of c.args.value.now in (
@@ -23,7 +25,7 @@ returns-in-Ok c =
 
 pub returns-in-Ok-Some : goal.returns-in-Ok-Some
 returns-in-Ok-Some c =
-    let far = form_of c.args.gateway.now.back in
+    let far = form_of (protocol_of c.args.gateway.now.back) in
     let s = service_data c.args.gateway.now.service in
     let g = goal_of c.args.operation the_input in
     let v = val_of c.args.value.now in

@@ -3,6 +3,7 @@ use Rattle.sm_service.specs.ServiceView.{service_data}
 use Rattle.sm_messages.specs.Answers.{reply_role, reply_val}
 use Rattle.sm_messages.specs.Goals.{goal_of}
 use Rattle.sm_protocols.specs.Forms.{form_of}
+use Rattle.sm_protocols.specs.Kept.{protocol_of}
 use Rattle.sm_gateway.proofs.ValuesCarried.{told_uncarried}
 use Rattle.sm_gateway.proofs.carrying.tell.Goals as goal
 
@@ -11,6 +12,6 @@ returns-in-Ok c host = inl (c.in-Ok.ensures host)
 
 pub returns-in-Err : goal.returns-in-Err
 returns-in-Err c host =
-    told_uncarried (form_of c.args.gateway.now.front) (service_data c.args.gateway.now.service) host
+    told_uncarried (form_of (protocol_of c.args.gateway.now.front)) (service_data c.args.gateway.now.service) host
     (goal_of c.args.operation (reply_role c.args.reply.now)) (reply_val c.args.reply.now) c.in-Err.refusal
     c.back_refused_answer.result (c.in-Err.ensures host) c.back_refused_answer.ensures

@@ -1,9 +1,16 @@
 use Rattle.std.proofs.Common.{◌∙◌, ap, []}
 use Rattle.sm_messages.specs.Goals.{a_response}
 use Rattle.sm_messages.specs.Heads.{is_empty}
+use Rattle.sm_gateway.specs.GatewayData.{back_form, front_form}
 use Rattle.sm_gateway.specs.GatewayView.{gateway_data}
 use Rattle.sm_gateway.proofs.MessagesCrossed.{body_whole, response_read, response_refused}
+use Rattle.sm_gateway.proofs.ValuesKept.{far_serves}
 use Rattle.sm_gateway.proofs.crossing.response_reply.Goals as goal
+
+pub begin_response-requires-clause-served : goal.begin_response-requires-clause-served
+begin_response-requires-clause-served g c =
+    let gw = gateway_data c.args.gateway.now in
+    far_serves (front_form gw) (back_form gw) gw.service c.args.operation c.requires.served
 
 pub returns-in-Err-clause-reads : goal.returns-in-Err-clause-reads
 returns-in-Err-clause-reads g c =
@@ -17,7 +24,8 @@ piece-requires-clause-begun g c =
 pub finish_response-requires-clause-begun : goal.finish_response-requires-clause-begun
 finish_response-requires-clause-begun g c =
     let gw = gateway_data c.args.gateway.now in
-    let all = body_whole gw.back gw.service g.P.Patterns.test (a_response c.args.operation) c.piece.new.self c.args.message.now
+    let all = body_whole c.args.gateway.now.back gw.service g.P.Patterns.test (a_response c.args.operation) c.piece.new.self
+    c.args.message.now
     c.is_empty-empty.result c.as_slice-bytes.result.now c.as_slice-bytes.ensures c.is_empty-empty.ensures
     (c.in-Ok-piece.ensures.begun (a_response c.args.operation) c.args.message.now.head c.is_empty-empty.result []
     (c.in-Ok.ensures g.P.Patterns.test)) in
@@ -28,7 +36,7 @@ returns-in-Ok-piece-clause-reads g c =
     let gw = gateway_data c.args.gateway.now in
     response_read gw g.P.Patterns.test c.args.operation c.args.message.now c.finish_response.result
     (c.finish_response.ensures.answers c.args.operation c.args.message.now.head c.args.message.now.body
-    (body_whole gw.back gw.service g.P.Patterns.test (a_response c.args.operation) c.piece.new.self c.args.message.now
+    (body_whole c.args.gateway.now.back gw.service g.P.Patterns.test (a_response c.args.operation) c.piece.new.self c.args.message.now
     c.is_empty-empty.result c.as_slice-bytes.result.now c.as_slice-bytes.ensures c.is_empty-empty.ensures
     (c.in-Ok-piece.ensures.begun (a_response c.args.operation) c.args.message.now.head c.is_empty-empty.result []
     (c.in-Ok.ensures g.P.Patterns.test))))

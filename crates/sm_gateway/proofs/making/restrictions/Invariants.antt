@@ -3,6 +3,7 @@ use Rattle.std.specs.Prelude.{slice_get}
 use Rattle.sm_service.specs.ServiceView.{service_data}
 use Rattle.sm_messages.specs.Crossings.{or_by}
 use Rattle.sm_protocols.specs.Forms.{form_of}
+use Rattle.sm_protocols.specs.Kept.{protocol_of}
 use Rattle.sm_gateway.proofs.making.restrictions.Given as goal
 
 abbrev pub invariant-loop-operation : goal.invariant-loop-operation
@@ -10,5 +11,6 @@ invariant-loop-operation l = record {
   within : l.operation ≤ length (service_data l.service).operations;
   count : length l.paths.items ≡ l.operation;
   paths : (o : ℕ) → o < length l.paths.items → slice_get l.paths.items o
-      ≡ Some (or_by ((form_of l.front).restriction (service_data l.service) o) ((form_of l.back).restriction (service_data l.service) o));
+      ≡ Some (or_by ((form_of (protocol_of l.front)).restriction (service_data l.service) o)
+      ((form_of (protocol_of l.back)).restriction (service_data l.service) o));
 }

@@ -20,7 +20,7 @@ run_session-requires g c =
     let gw = gateway_data c.args.gateway.now in
     let stands : Stands gw g.P.Patterns.test =
     (c.requires.serves, record { front = (c.each_is_form.ensures gw.front).reads; back = (c.each_is_form.ensures gw.back).reads }) in
-    record { stands = (stands, c.requires.stored) }
+    record { stands = (stands, c.requires.stored, c.requires.kept) }
 
 pub returns-clause-session : goal.returns-clause-session
 returns-clause-session g c =

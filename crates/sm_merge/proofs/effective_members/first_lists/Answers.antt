@@ -4,7 +4,7 @@ use Rattle.std.proofs.lemmas.List.{nil_from_length}
 use Rattle.std.specs.Vec.Iter.{into_iter_items}
 use Rattle.sm_merge.specs.steps.EffectiveTables.{by_members}
 use Rattle.sm_merge.specs.steps.Filling.{AreFirstRows}
-use Rattle.sm_merge.specs.steps.Groups.{groups_view}
+use Rattle.sm_groups.specs.Groups.{groups_view}
 use Rattle.sm_merge.specs.steps.MemberLists.{ComeToFirsts, joined_rows}
 use Rattle.sm_merge.specs.steps.Tables.{ComeToRows}
 use Rattle.sm_merge.specs.declared.effective.MemberTraits.{MemberTraits}

@@ -2,7 +2,7 @@ use Rattle.std.proofs.Common.{◌++◌, ap, ◌∙◌}
 use Rattle.std.proofs.lemmas.Result.{IfOk-weaker}
 use Rattle.sm_merge.specs.steps.Filling.{given_rows, kept_by, last_first, member_rows}
 use Rattle.sm_merge.specs.steps.Firsts.{targets_view}
-use Rattle.sm_merge.specs.steps.Groups.{groups_view}
+use Rattle.sm_groups.specs.Groups.{groups_view}
 use Rattle.sm_merge.specs.steps.MemberLists.{AreMemberTraits, ComeToFirsts, rows_under}
 use Rattle.sm_merge.proofs.MemberListsMade.{made_lists}
 use Rattle.sm_merge.proofs.effective_members.member_traits.Goals as goal

@@ -3,7 +3,7 @@ use Rattle.std.specs.List.{flat_map}
 use Rattle.std.proofs.lemmas.Grind.{common_steps}
 use Rattle.std.proofs.lemmas.List.{nil_from_length}
 use Rattle.std.specs.Vec.Iter.{into_iter_items}
-use Rattle.sm_merge.specs.steps.Groups.{AreGroupsOf, group_view, groups_view}
+use Rattle.sm_groups.specs.Groups.{AreGroupsOf, group_view, groups_view}
 use Rattle.sm_merge.specs.steps.ShapeTables.{ArePicked, AreSoundUnder, kept_of}
 use Rattle.sm_merge.specs.steps.Tables.{HoldGroups}
 use Rattle.sm_merge.proofs.ShapesFound.{groups_sound, rows_step, wrong_step}

@@ -1,7 +1,7 @@
 use Rattle.std.proofs.Common.{◌≡◌, ◌++◌, ℕ, List}
 use Rattle.std.specs.List.{flat_map}
 use Rattle.std.specs.Vec.Iter.{into_iter_items}
-use Rattle.sm_merge.specs.steps.Groups.{groups_view}
+use Rattle.sm_groups.specs.Groups.{groups_view}
 use Rattle.sm_merge.specs.steps.ShapeTables.{ArePicked, AreSoundUnder, kept_of}
 use Rattle.sm_merge.specs.steps.Tables.{HoldGroups}
 use Rattle.sm_merge.proofs.shapes.shape_table.Given as goal

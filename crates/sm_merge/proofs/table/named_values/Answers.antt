@@ -4,7 +4,7 @@ use Rattle.std.proofs.lemmas.List.{nil_from_length}
 use Rattle.std.specs.Vec.Iter.{into_iter_items}
 use Rattle.sm_tree.specs.View.{nodes_view}
 use Rattle.sm_merge.specs.steps.Folding.{AreNodes, IsFolded}
-use Rattle.sm_merge.specs.steps.Groups.{AreGroupsOf, groups_view}
+use Rattle.sm_groups.specs.Groups.{AreGroupsOf, groups_view}
 use Rattle.sm_merge.specs.steps.Tables.{ComeToRows, HoldGroups, named_view}
 use Rattle.sm_merge.proofs.TablesMade.{groups_of_nodes, values_made}
 use Rattle.sm_merge.proofs.table.named_values.Goals as goal

@@ -2,7 +2,7 @@ use Rattle.std.proofs.Common.{ℕ, List, ◌++◌}
 use Rattle.std.specs.Vec.Iter.{into_iter_items}
 use Rattle.sm_tree.specs.View.{nodes_view}
 use Rattle.sm_merge.specs.steps.Folding.{AreNodes, IsFolded}
-use Rattle.sm_merge.specs.steps.Groups.{groups_view}
+use Rattle.sm_groups.specs.Groups.{groups_view}
 use Rattle.sm_merge.specs.steps.Tables.{ComeToRows, HoldGroups, named_view}
 use Rattle.sm_merge.specs.declared.value.Folded.{Folded}
 use Rattle.sm_merge.proofs.table.named_values.Given as goal

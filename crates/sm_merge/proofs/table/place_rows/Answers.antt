@@ -2,7 +2,7 @@ use Rattle.std.proofs.Common.{arith, ◌≡◌, ◌++◌, [], sym, subst, rules}
 use Rattle.std.proofs.lemmas.Grind.{common_steps}
 use Rattle.std.proofs.lemmas.List.{nil_from_length}
 use Rattle.std.specs.Vec.Iter.{into_iter_items}
-use Rattle.sm_merge.specs.steps.Groups.{AreGroupsOf, groups_view}
+use Rattle.sm_groups.specs.Groups.{AreGroupsOf, groups_view}
 use Rattle.sm_merge.specs.steps.Tables.{AreListsOfNodes, ComeToRows, ComeToTraits, HoldGroups, pairs_views, places_view}
 use Rattle.sm_merge.proofs.TablesMade.{groups_of_lists, places_made}
 use Rattle.sm_merge.proofs.table.place_rows.Goals as goal

@@ -1,6 +1,6 @@
 use Rattle.std.proofs.Common.{ℕ, List, ◌++◌}
 use Rattle.std.specs.Vec.Iter.{into_iter_items}
-use Rattle.sm_merge.specs.steps.Groups.{groups_view}
+use Rattle.sm_groups.specs.Groups.{groups_view}
 use Rattle.sm_merge.specs.steps.Tables.{AreListsOfNodes, ComeToRows, ComeToTraits, HoldGroups, pairs_views, places_view}
 use Rattle.sm_merge.specs.declared.table.NamedValue.{NamedValue}
 use Rattle.sm_merge.proofs.table.place_rows.Given as goal

@@ -4,8 +4,8 @@ use Rattle.sm_shapes.specs.Fitting.{any_text}
 use Rattle.sm_service.specs.ServiceView.{service_data}
 use Rattle.sm_awsjson.specs.declared.version.AwsVersion.TheVariants.{V10, V11}
 use Rattle.sm_protocols.specs.ProtocolBodies.{BeginsRequest}
-use Rattle.sm_protocols.specs.declared.body.ProtocolBody.TheVariants.{Aws, Rpc}
-use Rattle.sm_protocols.proofs.HeadsBegun.{aws_head, rpc_head}
+use Rattle.sm_protocols.specs.declared.body.ProtocolBody.TheVariants.{Aws, Rest, Rpc}
+use Rattle.sm_protocols.proofs.HeadsBegun.{aws_head, rest_head, rpc_head}
 use Rattle.sm_protocols.proofs.heads.begin_request.Goals as goal
 
 pub returns-in-Ok : goal.returns-in-Ok
@@ -40,3 +40,16 @@ pub returns-in-Err-begin_request-2 : goal.returns-in-Err-begin_request-2
 returns-in-Err-begin_request-2 c =
     subst (λ p. BeginsRequest p (service_data c.args.service.now) c.args.head.now c.args.empty (Err c.in-Err-begin_request-2.refusal)) (sym c.in-RpcV2Cbor.is)
     (c.in-Err-begin_request-2.ensures any_text)
+
+pub returns-in-Ok-begin_rest_request : goal.returns-in-Ok-begin_rest_request
+returns-in-Ok-begin_rest_request c =
+    let s = service_data c.args.service.now in
+    subst (λ p. BeginsRequest p s c.args.head.now c.args.empty
+    (Ok (c.operation-in-Ok-begin_rest_request.result, Rest c.in-Ok-begin_rest_request.body))) (sym c.in-RestJson1.is)
+    (rest_head c.in-RestJson1.rest s c.args.head.now c.args.empty c.operation-in-Ok-begin_rest_request.result
+    c.in-Ok-begin_rest_request.body c.operation-in-Ok-begin_rest_request.ensures c.in-Ok-begin_rest_request.ensures)
+
+pub returns-in-Err-begin_rest_request : goal.returns-in-Err-begin_rest_request
+returns-in-Err-begin_rest_request c =
+    subst (λ p. BeginsRequest p (service_data c.args.service.now) c.args.head.now c.args.empty (Err c.in-Err-begin_rest_request.refusal))
+    (sym c.in-RestJson1.is) (c.in-Err-begin_rest_request.ensures any_text)

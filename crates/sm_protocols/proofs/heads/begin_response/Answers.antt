@@ -35,3 +35,8 @@ pub returns-in-Err-begin_response-2 : goal.returns-in-Err-begin_response-2
 returns-in-Err-begin_response-2 c =
     subst (λ p. BeginsResponse p (service_data c.args.service.now) c.args.operation c.args.head.now c.args.empty (Err c.in-Err-begin_response-2.refusal))
     (sym c.in-RpcV2Cbor.is) (c.in-Err-begin_response-2.ensures any_text)
+
+pub returns-in-Err-begin_rest_response : goal.returns-in-Err-begin_rest_response
+returns-in-Err-begin_rest_response c =
+    subst (λ p. BeginsResponse p (service_data c.args.service.now) c.args.operation c.args.head.now c.args.empty
+    (Err c.in-Err-begin_rest_response.refusal)) (sym c.in-RestJson1.is) (c.in-Err-begin_rest_response.ensures any_text)

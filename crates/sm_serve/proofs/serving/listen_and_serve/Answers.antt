@@ -8,6 +8,7 @@ use Rattle.sm_serve.proofs.serving.listen_and_serve.Goals as goal
 pub serve_links-requires : goal.serve_links-requires
 serve_links-requires g c = record {
   serves = c.requires.serves;
+  kept = c.requires.kept;
   stored = c.requires.stored;
   «open» = ap (λ (d : DoorsSeen). d.phase) c.in-Ok.ensures.listens;
 }

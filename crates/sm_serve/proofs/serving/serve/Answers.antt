@@ -9,6 +9,7 @@ use Rattle.sm_serve.proofs.serving.serve.Goals as goal
 pub listen_and_serve-requires : goal.listen_and_serve-requires
 listen_and_serve-requires g c = record {
   serves = c.in-Ok.ensures.serves;
+  kept = c.in-Ok.ensures.kept;
   stored = c.in-Ok.ensures.stored;
   lets = c.requires.lets (serve_said c.in-Some.form) c.in-Some.ensures;
   shut = c.requires.shut;

@@ -1,29 +1,39 @@
 use Rattle.sm_shapes.specs.ValueView.{val_of}
 use Rattle.sm_messages.specs.Goals.{goal_of, the_input}
+use Rattle.sm_protocols.specs.Kept.{protocol_of}
+use Rattle.sm_gateway.specs.GatewayData.{back_form, front_form}
 use Rattle.sm_gateway.specs.GatewayView.{gateway_data}
 use Rattle.sm_gateway.specs.steps.Reading.{ReadsBoth}
 use Rattle.sm_gateway.proofs.MessagesCrossed.{crossed_request, refused_request, uncarried_request}
 use Rattle.sm_gateway.proofs.MessagesFinished.{request_value}
+use Rattle.sm_gateway.proofs.ValuesKept.{far_serves}
 use Rattle.sm_gateway.proofs.gateway.Gateway.cross_request.Goals as goal
 
 pub request_value-requires-clause-reads : goal.request_value-requires-clause-reads
 request_value-requires-clause-reads g c =
-    record { front = (c.each_is_form.ensures c.args.self.now.front).reads; back = (c.each_is_form.ensures c.args.self.now.back).reads }
+    record {
+      front = (c.each_is_form.ensures (protocol_of c.args.self.now.front)).reads;
+      back =
+          (c.each_is_form.ensures (protocol_of c.args.self.now.back)).reads;
+    }
 
-pub ask_whole-requires-clause-number : goal.ask_whole-requires-clause-number
-ask_whole-requires-clause-number g c =
+pub ask_whole-requires-clause-served : goal.ask_whole-requires-clause-served
+ask_whole-requires-clause-served g c =
     let gw = gateway_data c.args.self.now in
     let reads : ReadsBoth gw =
     record { front = (c.each_is_form.ensures gw.front).reads; back = (c.each_is_form.ensures gw.back).reads } in
-    (request_value gw g.P.Patterns.test c.requires.serves reads c.args.message.now (goal_of c.in-Ok.read.0 the_input) (val_of c.in-Ok.read.1)
-    c.in-Ok.ensures.reads).served.within
+    far_serves (front_form gw) (back_form gw) gw.service c.in-Ok.read.0
+    (request_value gw g.P.Patterns.test c.requires.serves reads c.args.message.now (goal_of c.in-Ok.read.0 the_input)
+    (val_of c.in-Ok.read.1)
+    c.in-Ok.ensures.reads).served
 
 pub ask_whole-requires-clause-fits : goal.ask_whole-requires-clause-fits
 ask_whole-requires-clause-fits g c =
     let gw = gateway_data c.args.self.now in
     let reads : ReadsBoth gw =
     record { front = (c.each_is_form.ensures gw.front).reads; back = (c.each_is_form.ensures gw.back).reads } in
-    (request_value gw g.P.Patterns.test c.requires.serves reads c.args.message.now (goal_of c.in-Ok.read.0 the_input) (val_of c.in-Ok.read.1)
+    (request_value gw g.P.Patterns.test c.requires.serves reads c.args.message.now (goal_of c.in-Ok.read.0 the_input)
+    (val_of c.in-Ok.read.1)
     c.in-Ok.ensures.reads).fits_any
 
 pub returns-in-Err-clause-crosses : goal.returns-in-Err-clause-crosses

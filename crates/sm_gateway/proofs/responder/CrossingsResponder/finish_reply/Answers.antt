@@ -1,6 +1,7 @@
 use Rattle.sm_messages.specs.Answers.{reply_role, reply_val}
 use Rattle.sm_messages.specs.Goals.{goal_of}
 use Rattle.sm_gateway.specs.GatewayView.{gateway_data}
+use Rattle.sm_gateway.specs.steps.Reading.{both_spoken}
 use Rattle.sm_gateway.proofs.MessagesFinished.{reply_stays, reply_told, reply_value}
 use Rattle.sm_gateway.proofs.responder.CrossingsResponder.finish_reply.Goals as goal
 
@@ -23,10 +24,12 @@ tell-requires-clause-fits g c =
 pub returns-in-Ok-clause-replies : goal.returns-in-Ok-clause-replies
 returns-in-Ok-clause-replies g c =
     let gw = gateway_data c.args.self.now.gateway.now in
-    reply_told gw g.P.Patterns.test c.requires.stands.0 c.args.body c.in-Ok.operation c.in-Ok.reply c.tell.result c.in-Ok.ensures.answers
+    reply_told (both_spoken c.args.self.now.gateway.now) gw g.P.Patterns.test c.requires.stands.0 c.args.body c.in-Ok.operation
+    c.in-Ok.reply c.tell.result c.in-Ok.ensures.answers
     (c.tell.ensures gw.host)
 
 pub returns-in-Err-clause-replies : goal.returns-in-Err-clause-replies
 returns-in-Err-clause-replies g c =
-    reply_stays (gateway_data c.args.self.now.gateway.now) g.P.Patterns.test c.requires.stands.0 c.args.body c.in-Err.refusal
+    reply_stays (both_spoken c.args.self.now.gateway.now) (gateway_data c.args.self.now.gateway.now) g.P.Patterns.test c.requires.stands.0
+    c.args.body c.in-Err.refusal
     c.back_refused_answer.result c.in-Err.ensures.answers c.back_refused_answer.ensures

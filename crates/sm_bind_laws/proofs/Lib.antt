@@ -1,0 +1,17 @@
+pub mod EscapedTexts
+pub mod WrittenPaths
+pub mod WrittenPairs
+pub mod WrittenMatches
+pub mod TargetsRead
+pub mod FieldsEach
+pub mod MembersRead
+pub mod OwnParts
+pub mod EachCarried
+pub mod QueriesFound
+pub mod ParamsFound
+pub mod LabelsFound
+pub mod HeadersFound
+pub mod PrefixesFound
+pub mod StatusFound
+pub mod BodiesFound
+pub mod PartsRead

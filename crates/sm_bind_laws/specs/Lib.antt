@@ -1,0 +1,4 @@
+pub mod WrittenLabels
+pub mod FoundParts
+pub mod BoundRight
+pub mod Laws

@@ -1,0 +1,14 @@
+pub mod TextsAgain
+pub mod LeavesAgain
+pub mod ListsAgain
+pub mod QueriesAgain
+pub mod GroupsAgain
+pub mod MapsAgain
+pub mod KeyedAgain
+pub mod EdgedTexts
+pub mod CommaFree
+pub mod CommaLists
+pub mod HeadersAgain
+pub mod PrefixesAgain
+pub mod PayloadsAgain
+pub mod MembersCome

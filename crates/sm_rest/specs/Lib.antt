@@ -1,0 +1,6 @@
+pub mod RestServable
+pub mod RestGoals
+pub mod WrittenRest
+pub mod RestForm
+pub mod RestOf
+pub mod Laws

@@ -1,0 +1,3 @@
+pub mod PlacesBound
+pub mod BodyParts
+pub mod RestMessages

@@ -1,0 +1,36 @@
+use Rattle.std.proofs.Common.{◌≡◌, [], subst}
+use Rattle.std.specs.Prelude.{◌↔◌, IsTrue}
+use Rattle.sm_shapes.specs.ValueView.{val_of}
+use Rattle.sm_service.specs.ServiceView.{service_data}
+use Rattle.sm_messages.specs.Goals.{goal_of, the_input}
+use Rattle.sm_bind.specs.BoundView.{bound_of}
+use Rattle.sm_bind_write.specs.CarriedParts.{uncarried_parts}
+use Rattle.sm_rest_write.proofs.PlacesBound.{fits_there, shape_there, shaped_there}
+use Rattle.sm_rest_write.proofs.carried.is_input_carried.Goals as goal
+
+pub is_carried-requires-clause-shaped : goal.is_carried-requires-clause-shaped
+is_carried-requires-clause-shaped c =
+    let s = service_data c.args.service.now in
+    let g = goal_of c.args.operation the_input in
+    let b = bound_of c.input_place.result in
+    shaped_there s g b c.input_place.ensures c.requires.servable
+
+pub is_carried-requires-clause-shape : goal.is_carried-requires-clause-shape
+is_carried-requires-clause-shape c =
+    let s = service_data c.args.service.now in
+    let g = goal_of c.args.operation the_input in
+    let b = bound_of c.input_place.result in
+    shape_there s g b c.input_place.ensures c.requires.servable (c.requires.number, tt)
+
+pub is_carried-requires-clause-fits : goal.is_carried-requires-clause-fits
+is_carried-requires-clause-fits c =
+    let s = service_data c.args.service.now in
+    let g = goal_of c.args.operation the_input in
+    let b = bound_of c.input_place.result in
+    fits_there s g b (val_of c.args.value.now) c.input_place.ensures c.requires.fits
+
+pub returns : goal.returns
+returns c =
+    let s = service_data c.args.service.now in
+    let v = val_of c.args.value.now in
+    subst (λ b. IsTrue c.is_carried.result ↔ (uncarried_parts b v ≡ [])) c.input_place.ensures c.is_carried.ensures

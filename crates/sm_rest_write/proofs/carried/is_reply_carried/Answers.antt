@@ -1,0 +1,42 @@
+use Rattle.std.proofs.Common.{◌≡◌, [], sym, subst}
+use Rattle.std.specs.Prelude.{◌↔◌, IsTrue}
+use Rattle.sm_shapes.specs.Fitting.{Fits, any_text}
+use Rattle.sm_shapes.specs.ValueView.{val_of}
+use Rattle.sm_service.specs.ServiceView.{service_data}
+use Rattle.sm_messages.specs.Answers.{reply_role}
+use Rattle.sm_messages.specs.Goals.{goal_of}
+use Rattle.sm_messages.specs.TreeBodies.{goal_place}
+use Rattle.sm_bind.specs.BoundView.{bound_of}
+use Rattle.sm_bind_read.specs.BoundGoals.{bound_at}
+use Rattle.sm_bind_write.specs.CarriedParts.{uncarried_parts}
+use Rattle.sm_rest_write.proofs.PlacesBound.{fits_there, shape_there, shaped_there}
+use Rattle.sm_rest_write.proofs.carried.is_reply_carried.Goals as goal
+
+pub is_carried-requires-clause-shaped : goal.is_carried-requires-clause-shaped
+is_carried-requires-clause-shaped c =
+    let s = service_data c.args.service.now in
+    let g = goal_of c.args.operation (reply_role c.args.reply.now) in
+    let b = bound_of c.reply_place.result in
+    shaped_there s g b c.reply_place.ensures c.requires.servable
+
+pub is_carried-requires-clause-shape : goal.is_carried-requires-clause-shape
+is_carried-requires-clause-shape c =
+    let s = service_data c.args.service.now in
+    let g = goal_of c.args.operation (reply_role c.args.reply.now) in
+    let b = bound_of c.reply_place.result in
+    shape_there s g b c.reply_place.ensures c.requires.servable c.requires.goal
+
+pub is_carried-requires-clause-fits : goal.is_carried-requires-clause-fits
+is_carried-requires-clause-fits c =
+    let s = service_data c.args.service.now in
+    let g = goal_of c.args.operation (reply_role c.args.reply.now) in
+    let b = bound_of c.reply_place.result in
+    fits_there s g b (val_of c.value_in.result.now) c.reply_place.ensures (subst (λ v. Fits s.table any_text (goal_place s g) v) (sym c.value_in.ensures) c.requires.fits)
+
+pub returns : goal.returns
+returns c =
+    let s = service_data c.args.service.now in
+    let g = goal_of c.args.operation (reply_role c.args.reply.now) in
+    subst (λ v. IsTrue c.is_carried.result ↔ (uncarried_parts (bound_at s g) v ≡ [])) c.value_in.ensures
+    (subst (λ b. IsTrue c.is_carried.result ↔ (uncarried_parts b (val_of c.value_in.result.now) ≡ [])) c.reply_place.ensures
+    c.is_carried.ensures)

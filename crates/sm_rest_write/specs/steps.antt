@@ -1,0 +1,3 @@
+pub mod ToldFields
+pub mod Bodies
+pub mod Outlines

@@ -1,0 +1,8 @@
+use Rattle.std.proofs.Common.{take}
+use Rattle.sm_model.specs.GivenView.{members_given_view}
+use Rattle.sm_transform.specs.steps.Changing.{AreMembersAfter}
+use Rattle.sm_transform.proofs.changed_shapes.changed_members.Given as goal
+
+abbrev pub invariant-loop-number : goal.invariant-loop-number
+invariant-loop-number g l =
+    AreMembersAfter (g.C.ChangesIds.after l.change) l.graph (take l.number-index l.numbers) (members_given_view l.members.items)

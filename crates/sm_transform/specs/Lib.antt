@@ -1,0 +1,9 @@
+pub mod Namespaces
+pub mod Included
+pub mod Excluded
+pub mod IdChanges
+pub mod Renamed
+pub mod Changed
+pub mod Answers
+pub mod Laws
+pub mod steps

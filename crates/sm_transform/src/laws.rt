@@ -1,0 +1,12 @@
+// Laws over the definitions: public functions with empty bodies, whose contracts are the laws.
+ghost use Rattle.sm_transform.specs.Laws.{OneChanged, RenamedBack};
+
+/// A change makes one graph of a graph.
+pub fn one_changed()
+    ensures { OneChanged }
+{}
+
+/// A namespace that gets another name, and then its own again, leaves the graph as it was, where the first isn't refused.
+pub fn renamed_back()
+    ensures { RenamedBack }
+{}

@@ -1,0 +1,2 @@
+mod JudgedGraphs
+mod AcceptedGraphs
