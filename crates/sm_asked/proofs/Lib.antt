@@ -8,3 +8,4 @@ pub mod SomeLoad
 pub mod ToldAll
 pub mod Answered
 pub mod OverFiles
+pub use Rattle.sm_load.proofs as load

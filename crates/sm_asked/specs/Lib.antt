@@ -11,3 +11,4 @@ pub mod AskedLaws
 pub mod Comes
 pub mod Loading
 pub mod steps
+pub use Rattle.sm_load.specs as load

@@ -4,3 +4,5 @@
 mod printing;
 
 pub use printing::{print, print_stop};
+pub use sm_asked;
+pub use sm_asked::sm_load;

@@ -4,10 +4,10 @@ use Rattle.sm_io.specs.Seen.{FilesSeen}
 use Rattle.sm_shapes.specs.Fitting.{Test}
 use Rattle.sm_shapes.specs.InOrder.{AreStored}
 use Rattle.sm_compile.specs.Answers.{StoreSeen}
-use Rattle.sm_service.specs.ServiceView.{service_data}
-use Rattle.sm_service.specs.declared.service.Service.{Service}
-use Rattle.sm_rest.specs.Laws.{TargetTextsWhereJson}
-use Rattle.sm_asked.specs.Stages.{told}
+use Rattle.sm_asked_service.specs.service.ServiceView.{service_data}
+use Rattle.sm_asked_service.specs.service.declared.service.Service.{Service}
+use Rattle.sm_gateway.specs.rest.Laws.{TargetTextsWhereJson}
+use Rattle.sm_asked_service.specs.asked.Stages.{told}
 use Rattle.sm_asked_service.specs.LoadsService.{CanBeServed, LoadsService}
 use Rattle.sm_gateway.specs.GatewayData.{GatewayData, ServesBoth}
 use Rattle.sm_asked_gateway.specs.GatewayStages.{gateway_over}

@@ -15,15 +15,15 @@ use Rattle.sm_codec.specs.Codec.{Codec}
 use Rattle.sm_codec.specs.Defaults.{filled, filled_members, node_codec}
 use Rattle.sm_compile.specs.Sound.{trait_in}
 use Rattle.sm_http.specs.declared.message.Protocol.{Protocol}
-use Rattle.sm_service.specs.Filled.{over_table}
-use Rattle.sm_service.specs.ServiceData.{ServiceData}
-use Rattle.sm_rest.specs.Laws.{HasJsonTraits, TargetTextsWhereJson}
-use Rattle.sm_rest.specs.RestServable.{HasTargetTexts, RestServable}
-use Rattle.sm_asked.specs.Loading.{Loaded}
-use Rattle.sm_asked.specs.Stages.{Told}
+use Rattle.sm_asked_service.specs.service.Filled.{over_table}
+use Rattle.sm_asked_service.specs.service.ServiceData.{ServiceData}
+use Rattle.sm_gateway.specs.rest.Laws.{HasJsonTraits, TargetTextsWhereJson}
+use Rattle.sm_gateway.specs.rest.RestServable.{HasTargetTexts, RestServable}
+use Rattle.sm_asked_service.specs.asked.Loading.{Loaded}
+use Rattle.sm_asked_service.specs.asked.Stages.{Told}
 use Rattle.sm_asked_service.specs.LoadsService.{CanBeServed, IsLoadedService}
 use Rattle.sm_asked_service.specs.ServiceStages.{ServiceMade, service_of}
-use Rattle.sm_protocols.proofs.ProtocolsServe.{each_serves}
+use Rattle.sm_gateway.proofs.protocols.ProtocolsServe.{each_serves}
 use Rattle.sm_gateway.specs.GatewayData.{ServesBoth}
 
 -- the values of traits

@@ -1,12 +1,12 @@
 -- Files and a store come to one answer before a gateway, or to one gateway: its service is one.
 use Rattle.std.proofs.Common.{ap}
 use Rattle.sm_codec.specs.Defaults.{filled}
-use Rattle.sm_load.specs.Laws.{ReadyModels}
-use Rattle.sm_service.specs.Filled.{over_table}
-use Rattle.sm_service.specs.Laws.{OneService}
-use Rattle.sm_service.specs.ServiceData.{ServiceData}
-use Rattle.sm_asked.specs.Stages.{Told}
-use Rattle.sm_asked.proofs.ToldAll.{IsToldWhole, all_told}
+use Rattle.sm_asked_service.specs.load.Laws.{ReadyModels}
+use Rattle.sm_asked_service.specs.service.Filled.{over_table}
+use Rattle.sm_asked_service.specs.service.Laws.{OneService}
+use Rattle.sm_asked_service.specs.service.ServiceData.{ServiceData}
+use Rattle.sm_asked_service.specs.asked.Stages.{Told}
+use Rattle.sm_asked_service.proofs.asked.ToldAll.{IsToldWhole, all_told}
 use Rattle.sm_asked_service.proofs.OneServiceAsked.{service_apart, service_same, services_same}
 use Rattle.sm_gateway.specs.GatewayData.{GatewayData}
 use Rattle.sm_asked_gateway.specs.GatewayStages.{GatewayMade, gateway_of, gateway_over}

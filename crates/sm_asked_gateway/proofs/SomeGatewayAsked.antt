@@ -1,6 +1,6 @@
 -- Files that are there, and a store, come to some answer before a gateway, or to that gateway.
-use Rattle.sm_load.specs.Laws.{ReadyModels, SomeLoad}
-use Rattle.sm_service.specs.Laws.{SomeService}
+use Rattle.sm_asked_service.specs.load.Laws.{ReadyModels, SomeLoad}
+use Rattle.sm_asked_service.specs.service.Laws.{SomeService}
 use Rattle.sm_asked_service.proofs.SomeServiceAsked.{service_answered}
 use Rattle.sm_asked_gateway.specs.Laws.{SomeGateway}
 

@@ -1,6 +1,6 @@
 -- What stands before a gateway is what stands before its service: the model files, the service and its patterns.
-use Rattle.sm_asked.specs.Answer.{Answer}
-use Rattle.sm_asked.specs.Stages.{Told}
+use Rattle.sm_asked_service.specs.asked.Answer.{Answer}
+use Rattle.sm_asked_service.specs.asked.Stages.{Told}
 use Rattle.sm_asked_service.specs.ServiceAnswers.{ServiceAnswers}
 use Rattle.sm_asked_gateway.specs.GatewayWords.{GatewayAsked}
 

@@ -1,6 +1,6 @@
 -- A command over a gateway has come to it where a service of its model files is compiled, over bytes alone: each protocol serves it.
-use Rattle.sm_service.specs.ServiceData.{ServiceData}
-use Rattle.sm_asked.specs.Stages.{Told}
+use Rattle.sm_asked_service.specs.service.ServiceData.{ServiceData}
+use Rattle.sm_asked_service.specs.asked.Stages.{Told}
 use Rattle.sm_asked_service.specs.ServiceStages.{ServiceMade, service_of}
 use Rattle.sm_gateway.specs.GatewayData.{GatewayData}
 use Rattle.sm_asked_gateway.specs.GatewayWords.{GatewayAsked}

@@ -1,9 +1,9 @@
 -- What holds of gateways that are asked for: model files and a store come to one, or to one answer before it, and to no more.
 use Rattle.std.specs.Prelude.{◌≡◌, ℕ, List}
 use Rattle.sm_io.specs.Files.{Folder}
-use Rattle.sm_asked.specs.Answer.{Answer}
-use Rattle.sm_asked.specs.AskedLaws.{AreThere, TellsAll}
-use Rattle.sm_asked.specs.Stages.{Told}
+use Rattle.sm_asked_service.specs.asked.Answer.{Answer}
+use Rattle.sm_asked_service.specs.asked.AskedLaws.{AreThere, TellsAll}
+use Rattle.sm_asked_service.specs.asked.Stages.{Told}
 use Rattle.sm_gateway.specs.GatewayData.{GatewayData}
 use Rattle.sm_asked_gateway.specs.GatewayAnswers.{GatewayAnswers}
 use Rattle.sm_asked_gateway.specs.GatewayStages.{GatewayMade, gateway_of}

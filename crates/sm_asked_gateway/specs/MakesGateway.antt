@@ -3,8 +3,8 @@ use Rattle.std.specs.Prelude.{◌≡◌, ℕ, List, Option, None, Result, Ok, Er
 use Rattle.sm_io.specs.Seen.{FilesSeen}
 use Rattle.sm_shapes.specs.Fitting.{Test}
 use Rattle.sm_compile.specs.Answers.{StoreSeen}
-use Rattle.sm_asked.specs.Stages.{Told, told}
-use Rattle.sm_asked.specs.declared.stop.CommandStop.{CommandStop}
+use Rattle.sm_asked_service.specs.asked.Stages.{Told, told}
+use Rattle.sm_asked_service.specs.asked.declared.stop.CommandStop.{CommandStop}
 use Rattle.sm_asked_service.specs.LoadsService.{StopsBefore}
 use Rattle.sm_gateway.specs.GatewayData.{GatewayData}
 use Rattle.sm_gateway.specs.GatewayView.{gateway_data}

@@ -7,4 +7,8 @@ mod making;
 mod words;
 
 pub use making::make_gateway;
+pub use sm_asked_service;
+pub use sm_asked_service::{sm_asked, sm_service};
+pub use sm_gateway;
+pub use sm_gateway::sm_rest;
 pub use words::{GATEWAY_WORDS, GatewayWords, gateway_words, is_host};

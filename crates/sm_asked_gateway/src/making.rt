@@ -4,15 +4,15 @@ ghost use Rattle.sm_io.specs.Files.{LetsSame};
 ghost use Rattle.sm_io.specs.Seen.{files_seen};
 ghost use Rattle.sm_shapes.specs.InOrder.{AreStored};
 ghost use Rattle.sm_compile.specs.Answers.{seen_store};
-ghost use Rattle.sm_asked.specs.CommandAsked.{OnlyAdds};
+ghost use Rattle.sm_asked_service.specs.asked.CommandAsked.{OnlyAdds};
 ghost use Rattle.sm_gateway.specs.GatewayData.{IsHost, ServesBoth};
 ghost use Rattle.sm_gateway.specs.GatewayView.{KeepsBoth, gateway_data};
 ghost use Rattle.sm_asked_gateway.specs.GatewayView.{gateway_asked};
 ghost use Rattle.sm_asked_gateway.specs.MakesGateway.{MakesGateway};
 
 use crate::words::GatewayWords;
-use sm_asked::CommandStop;
 use sm_asked_service::load_service;
+use sm_asked_service::sm_asked::CommandStop;
 use sm_gateway::Gateway;
 use sm_io::Files;
 use sm_shapes::Patterns;
@@ -47,7 +47,7 @@ pub fn make_gateway<F: Files, P: Patterns>(
     ensures same_writes { LetsSame (F.lets_write files.old) (F.lets_write files.new) }
     ensures added { OnlyAdds (P.added patterns.old) (P.added patterns.new) }
 {
-    sm_rest::laws::target_texts();
+    sm_gateway::sm_rest::laws::target_texts();
     match load_service(alloc, files, words.models, words.service, patterns) {
         Ok(service) => match Gateway::new(alloc, service, words.front, words.back, words.host) {
             Ok(gateway) => Ok(gateway),

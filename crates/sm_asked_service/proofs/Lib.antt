@@ -7,3 +7,4 @@ mod ServicesLoaded
 pub mod OneServiceAsked
 pub mod SomeServiceAsked
 pub mod ServiceComes
+pub use Rattle.sm_asked_shape.proofs.asked

@@ -1,7 +1,7 @@
 -- Files and a store come to one answer before a service that is compiled, or to one service: at each decision two go the same way.
 use Rattle.std.proofs.Common.{◌≡◌, ℕ, List, Some, sym, ap, subst, ◌∙◌}
 use Rattle.sm_model.specs.Graphs.{GraphMaps}
-use Rattle.sm_load.specs.Laws.{ReadyModels}
+use Rattle.sm_asked_shape.specs.load.Laws.{ReadyModels}
 use Rattle.sm_compile.specs.Compiled.{IsFirstCarrier}
 use Rattle.sm_compile.proofs.OnePatterns.{one_first}
 use Rattle.sm_rules.specs.Ready.{IsOfService}
@@ -9,11 +9,11 @@ use Rattle.sm_rules.specs.Words.{IsService}
 use Rattle.sm_service.specs.Answers.{IsServiceSeen}
 use Rattle.sm_service.specs.Laws.{OneService}
 use Rattle.sm_service.specs.ServiceData.{ServiceData}
-use Rattle.sm_asked.specs.Answer.{Answer, pattern_refused}
-use Rattle.sm_asked.specs.Lines.{pattern_line}
-use Rattle.sm_asked.specs.Loading.{Loaded}
-use Rattle.sm_asked.specs.Stages.{Told}
-use Rattle.sm_asked.proofs.ToldAll.{IsToldWhole}
+use Rattle.sm_asked_shape.specs.asked.Answer.{Answer, pattern_refused}
+use Rattle.sm_asked_shape.specs.asked.Lines.{pattern_line}
+use Rattle.sm_asked_shape.specs.asked.Loading.{Loaded}
+use Rattle.sm_asked_shape.specs.asked.Stages.{Told}
+use Rattle.sm_asked_shape.proofs.asked.ToldAll.{IsToldWhole}
 use Rattle.sm_asked_service.specs.ServiceAnswers.{ServiceAnswers}
 use Rattle.sm_asked_service.specs.ServiceAnswers.ServiceAnswers.{not_loaded, no_service, pattern}
 use Rattle.sm_asked_service.specs.ServiceStages.{ServiceThere, ServiceMade}

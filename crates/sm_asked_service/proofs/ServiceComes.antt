@@ -4,14 +4,14 @@ use Rattle.sm_io.specs.Causes.{Rose}
 use Rattle.sm_io.specs.Seen.{FilesSeen, Stream}
 use Rattle.sm_shapes.specs.Fitting.{Test}
 use Rattle.sm_compile.specs.Answers.{StoreSeen}
-use Rattle.sm_asked.specs.Answer.{Answer, came}
-use Rattle.sm_asked.specs.Answer.InputUse.{untouched}
-use Rattle.sm_asked.specs.CommandAsked.{Answers, CommandAsked, FileFails, StopsShort, told_by}
-use Rattle.sm_asked.specs.Comes.{StepStops}
-use Rattle.sm_asked.specs.Outside.{InputsSeen, inputs_seen}
-use Rattle.sm_asked.specs.Stages.{Told}
-use Rattle.sm_asked.specs.declared.stop.CommandStop.{CommandStop}
-use Rattle.sm_asked.proofs.Stops.{stops_map}
+use Rattle.sm_asked_shape.specs.asked.Answer.{Answer, came}
+use Rattle.sm_asked_shape.specs.asked.Answer.InputUse.{untouched}
+use Rattle.sm_asked_shape.specs.asked.CommandAsked.{Answers, CommandAsked, FileFails, StopsShort, told_by}
+use Rattle.sm_asked_shape.specs.asked.Comes.{StepStops}
+use Rattle.sm_asked_shape.specs.asked.Outside.{InputsSeen, inputs_seen}
+use Rattle.sm_asked_shape.specs.asked.Stages.{Told}
+use Rattle.sm_asked_shape.specs.asked.declared.stop.CommandStop.{CommandStop}
+use Rattle.sm_asked_shape.proofs.asked.Stops.{stops_map}
 use Rattle.sm_asked_service.specs.LoadsService.{StandsBefore, StopsBefore}
 
 -- whatever the command asks, if it says what is said: the input is untouched, and no file is written

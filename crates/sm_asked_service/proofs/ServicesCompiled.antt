@@ -9,10 +9,10 @@ use Rattle.sm_service.specs.Answers.{CompilesService, IsServiceSeen}
 use Rattle.sm_service.specs.ServiceView.{service_data}
 use Rattle.sm_service.specs.declared.refusal.ServiceRefusal.TheVariants.{NoService, Pattern as is_pattern}
 use Rattle.sm_service.specs.declared.service.Service.{Service}
-use Rattle.sm_asked.specs.Comes.{EndsWithLine, EndsWithPattern}
-use Rattle.sm_asked.specs.Lines.{pattern_line}
-use Rattle.sm_asked.specs.declared.stop.CommandStop.{CommandStop}
-use Rattle.sm_asked.proofs.Stops.{line_stops, pattern_stops}
+use Rattle.sm_asked_shape.specs.asked.Comes.{EndsWithLine, EndsWithPattern}
+use Rattle.sm_asked_shape.specs.asked.Lines.{pattern_line}
+use Rattle.sm_asked_shape.specs.asked.declared.stop.CommandStop.{CommandStop}
+use Rattle.sm_asked_shape.proofs.asked.Stops.{line_stops, pattern_stops}
 use Rattle.sm_asked_service.specs.ServiceAnswers.{no_service_line}
 use Rattle.sm_asked_service.specs.steps.ServiceSteps.{ServiceSays, MakesService}
 use Rattle.sm_asked_service.specs.steps.ServiceSteps.ServiceSays.{lacks, refuses}

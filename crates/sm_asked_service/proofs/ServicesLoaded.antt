@@ -3,20 +3,20 @@ use Rattle.std.proofs.Common.{◌≡◌, ℕ, List, Option, Some, None, Ok, Err,
 use Rattle.sm_io.specs.Causes.{Rose}
 use Rattle.sm_io.specs.Seen.{FilesSeen}
 use Rattle.sm_model.specs.GraphView.{maps_of}
-use Rattle.sm_load.specs.declared.model.Model.{Model}
+use Rattle.sm_asked_shape.specs.load.declared.model.Model.{Model}
 use Rattle.sm_shapes.specs.Fitting.{Test}
 use Rattle.sm_compile.specs.Answers.{StoreSeen}
 use Rattle.sm_service.specs.Answers.{IsServiceSeen}
 use Rattle.sm_service.specs.ServiceData.{ServiceData}
 use Rattle.sm_service.specs.ServiceView.{service_data}
 use Rattle.sm_service.specs.declared.service.Service.{Service}
-use Rattle.sm_asked.specs.Answer.{Answer}
-use Rattle.sm_asked.specs.Loading.{Loaded, LoadAnswers, Loads}
-use Rattle.sm_asked.specs.Stages.{told}
-use Rattle.sm_asked.specs.declared.lines.Shown.TheVariants.{Errors}
-use Rattle.sm_asked.specs.declared.stop.CommandStop.{CommandStop}
-use Rattle.sm_asked.proofs.Answered.{none_is_some}
-use Rattle.sm_asked.proofs.Stops.{stops_map}
+use Rattle.sm_asked_shape.specs.asked.Answer.{Answer}
+use Rattle.sm_asked_shape.specs.asked.Loading.{Loaded, LoadAnswers, Loads}
+use Rattle.sm_asked_shape.specs.asked.Stages.{told}
+use Rattle.sm_asked_shape.specs.asked.declared.lines.Shown.TheVariants.{Errors}
+use Rattle.sm_asked_shape.specs.asked.declared.stop.CommandStop.{CommandStop}
+use Rattle.sm_asked_shape.proofs.asked.Answered.{none_is_some}
+use Rattle.sm_asked_shape.proofs.asked.Stops.{stops_map}
 use Rattle.sm_asked_service.specs.LoadsService.{StandsBefore, LoadsService}
 use Rattle.sm_asked_service.specs.ServiceAnswers.{ServiceAnswers}
 use Rattle.sm_asked_service.specs.ServiceAnswers.ServiceAnswers.{not_loaded, no_service, pattern}

@@ -6,19 +6,19 @@ use Rattle.sm_io.specs.Files.{Folder}
 use Rattle.sm_compile.specs.Answers.{StoreSeen}
 use Rattle.sm_compile.specs.Compiled.{IsFirstCarrier, texts_of}
 use Rattle.sm_compile.proofs.OnePatterns.{column_of}
-use Rattle.sm_load.specs.Laws.{ReadyModels, SomeLoad}
+use Rattle.sm_asked_shape.specs.load.Laws.{ReadyModels, SomeLoad}
 use Rattle.sm_rules.specs.Ready.{IsOfService}
 use Rattle.sm_rules.specs.Words.{IsService}
 use Rattle.sm_service.specs.Answers.{IsServiceSeen}
 use Rattle.sm_service.specs.Laws.{SomeService}
 use Rattle.sm_service.specs.ServiceData.{ServiceData}
-use Rattle.sm_asked.specs.Answer.{Answer, refused, pattern_refused}
-use Rattle.sm_asked.specs.AskedLaws.{AreThere}
-use Rattle.sm_asked.specs.Lines.{pattern_line}
-use Rattle.sm_asked.specs.Loading.{Loaded, LoadAnswers}
-use Rattle.sm_asked.specs.Stages.{Told}
-use Rattle.sm_asked.specs.declared.lines.Shown.TheVariants.{Errors}
-use Rattle.sm_asked.proofs.SomeLoad.{load_answered}
+use Rattle.sm_asked_shape.specs.asked.Answer.{Answer, refused, pattern_refused}
+use Rattle.sm_asked_shape.specs.asked.AskedLaws.{AreThere}
+use Rattle.sm_asked_shape.specs.asked.Lines.{pattern_line}
+use Rattle.sm_asked_shape.specs.asked.Loading.{Loaded, LoadAnswers}
+use Rattle.sm_asked_shape.specs.asked.Stages.{Told}
+use Rattle.sm_asked_shape.specs.asked.declared.lines.Shown.TheVariants.{Errors}
+use Rattle.sm_asked_shape.proofs.asked.SomeLoad.{load_answered}
 use Rattle.sm_asked_shape.proofs.LoadedSpelled.{loaded_spelled}
 use Rattle.sm_asked_service.specs.ServiceAnswers.{ServiceAnswers, no_service_line}
 use Rattle.sm_asked_service.specs.ServiceAnswers.ServiceAnswers.{not_loaded, no_service, pattern}

@@ -10,12 +10,12 @@ use Rattle.sm_service.specs.Servable.{Servable}
 use Rattle.sm_service.specs.ServiceData.{ServiceData}
 use Rattle.sm_service.specs.ServiceView.{service_data}
 use Rattle.sm_service.specs.declared.service.Service.{Service}
-use Rattle.sm_asked.specs.Answer.{Answer}
-use Rattle.sm_asked.specs.CommandAsked.{RefusedBy}
-use Rattle.sm_asked.specs.Comes.{StepStops}
-use Rattle.sm_asked.specs.Stages.{Told, told}
-use Rattle.sm_asked.specs.declared.status.Status.TheVariants.{Pattern}
-use Rattle.sm_asked.specs.declared.stop.CommandStop.{CommandStop}
+use Rattle.sm_asked_shape.specs.asked.Answer.{Answer}
+use Rattle.sm_asked_shape.specs.asked.CommandAsked.{RefusedBy}
+use Rattle.sm_asked_shape.specs.asked.Comes.{StepStops}
+use Rattle.sm_asked_shape.specs.asked.Stages.{Told, told}
+use Rattle.sm_asked_shape.specs.asked.declared.status.Status.TheVariants.{Pattern}
+use Rattle.sm_asked_shape.specs.asked.declared.stop.CommandStop.{CommandStop}
 use Rattle.sm_asked_service.specs.ServiceAnswers.{ServiceAnswers}
 use Rattle.sm_asked_service.specs.ServiceStages.{ServiceMade, service_of}
 

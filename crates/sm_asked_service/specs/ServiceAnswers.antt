@@ -5,11 +5,11 @@ use Rattle.sm_compile.specs.Compiled.{IsFirstCarrier}
 use Rattle.sm_rules.specs.Ready.{IsOfService}
 use Rattle.sm_rules.specs.Words.{IsService}
 use Rattle.sm_lines.specs.Lines.{line}
-use Rattle.sm_asked.specs.Answer.{Answer, refused, pattern_refused}
-use Rattle.sm_asked.specs.Lines.{pattern_line}
-use Rattle.sm_asked.specs.Loading.{Loaded, LoadAnswers}
-use Rattle.sm_asked.specs.Stages.{Told}
-use Rattle.sm_asked.specs.declared.lines.Shown.TheVariants.{Errors}
+use Rattle.sm_asked_shape.specs.asked.Answer.{Answer, refused, pattern_refused}
+use Rattle.sm_asked_shape.specs.asked.Lines.{pattern_line}
+use Rattle.sm_asked_shape.specs.asked.Loading.{Loaded, LoadAnswers}
+use Rattle.sm_asked_shape.specs.asked.Stages.{Told}
+use Rattle.sm_asked_shape.specs.asked.declared.lines.Shown.TheVariants.{Errors}
 use Rattle.sm_asked_service.specs.ServiceStages.{ServiceThere}
 
 -- the model has no service of this name

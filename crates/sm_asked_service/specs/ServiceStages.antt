@@ -8,8 +8,8 @@ use Rattle.sm_rules.specs.Words.{IsService}
 use Rattle.sm_service.specs.Answers.{IsServiceSeen}
 use Rattle.sm_service.specs.Filled.{over_table}
 use Rattle.sm_service.specs.ServiceData.{ServiceData}
-use Rattle.sm_asked.specs.Loading.{Loaded}
-use Rattle.sm_asked.specs.Stages.{Told}
+use Rattle.sm_asked_shape.specs.asked.Loading.{Loaded}
+use Rattle.sm_asked_shape.specs.asked.Stages.{Told}
 
 -- the model files come to a graph, which has a service of this id
 pub record ServiceThere (t : Told) (names : List (List ℕ)) (service : List ℕ) : Type 0 where

@@ -6,4 +6,6 @@ mod service;
 mod words;
 
 pub use service::load_service;
+pub use sm_asked_shape::{sm_asked, sm_load};
+pub use sm_service;
 pub use words::{models_before, protocol_named, protocol_word};

@@ -6,16 +6,16 @@ ghost use Rattle.sm_model.specs.GraphView.{maps_of};
 ghost use Rattle.sm_compile.specs.Answers.{seen_store};
 ghost use Rattle.sm_rules.specs.Ready.{Ready};
 ghost use Rattle.sm_service.specs.ServiceView.{service_data};
-ghost use Rattle.sm_asked.specs.CommandAsked.{OnlyAdds};
+ghost use Rattle.sm_asked_shape.specs.asked.CommandAsked.{OnlyAdds};
 ghost use Rattle.sm_asked_service.specs.LoadsService.{CanBeServed, LoadsService};
 ghost use Rattle.sm_asked_service.specs.steps.ServiceSteps.{IsFilledOf, IsUnfilled, MakesService};
 
-use sm_asked::{CommandStop, Shown, load_models, refused, refused_pattern};
+use sm_asked_shape::sm_asked::{CommandStop, Shown, load_models, refused, refused_pattern};
+use sm_asked_shape::sm_load::Model;
 use sm_codec::fill_defaults;
 use sm_ids::ShapeId;
 use sm_io::Files;
 use sm_lines::line;
-use sm_load::Model;
 use sm_model::Graph;
 use sm_service::{Service, ServiceRefusal, compile};
 use sm_shapes::Patterns;
@@ -117,7 +117,7 @@ pub fn load_service<F: Files, P: Patterns>(
         Err(stop) => return Err(stop),
     };
     drop(events);
-    sm_load::laws::sound_models();
+    sm_asked_shape::sm_load::laws::sound_models();
     let made = service_named(alloc, &graph, service, patterns);
     drop(graph);
     match made {

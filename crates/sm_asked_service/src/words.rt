@@ -3,7 +3,7 @@ ghost use Rattle.std.specs.Prelude.{◌≡◌, ◌∷◌, [], List, ℕ, MatchOp
 ghost use Rattle.sm_http.specs.declared.message.Protocol.{Protocol as a_protocol};
 ghost use Rattle.sm_asked_service.specs.ServiceWords.{AreBehindModels, protocol_word as the_protocol_word};
 
-use sm_asked::is_word;
+use sm_asked_shape::sm_asked::is_word;
 use sm_http::Protocol;
 use sm_tree::Text;
 

@@ -6,3 +6,4 @@ pub mod ShapesLoaded
 pub mod OneShape
 pub mod SomeShape
 pub mod ShapeComes
+pub use Rattle.sm_asked.proofs as asked

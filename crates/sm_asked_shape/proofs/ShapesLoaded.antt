@@ -4,7 +4,7 @@ use Rattle.std.specs.Prelude.{Result, IfOk}
 use Rattle.sm_io.specs.Causes.{Rose}
 use Rattle.sm_io.specs.Seen.{FilesSeen}
 use Rattle.sm_model.specs.GraphView.{maps_of}
-use Rattle.sm_load.specs.declared.model.Model.{Model}
+use Rattle.sm_asked.specs.load.declared.model.Model.{Model}
 use Rattle.sm_shapes.specs.Fitting.{Test}
 use Rattle.sm_shapes.specs.TableView.{table_data}
 use Rattle.sm_compile.specs.Answers.{StoreSeen, seen_table}

@@ -11,7 +11,7 @@ use Rattle.sm_compile.specs.Sound.{IsValueShape}
 use Rattle.sm_compile.specs.declared.compiled.Served.{Served}
 use Rattle.sm_compile.specs.declared.compiled.Served.TheVariants.{Yes, Unserved}
 use Rattle.sm_compile.proofs.OnePatterns.{column_of}
-use Rattle.sm_load.specs.Laws.{SomeLoad, SoundModels}
+use Rattle.sm_asked.specs.load.Laws.{SomeLoad, SoundModels}
 use Rattle.sm_lines.specs.Lines.{unserved_line}
 use Rattle.sm_asked.specs.Answer.{Answer, refused, pattern_refused}
 use Rattle.sm_asked.specs.AskedLaws.{AreThere}

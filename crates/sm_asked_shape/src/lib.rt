@@ -5,3 +5,5 @@
 mod shape;
 
 pub use shape::{LoadedShape, filled_shape, load_shape, table_named};
+pub use sm_asked;
+pub use sm_asked::sm_load;

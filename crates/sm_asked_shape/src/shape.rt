@@ -14,13 +14,13 @@ ghost use Rattle.sm_asked.specs.CommandAsked.{OnlyAdds};
 ghost use Rattle.sm_asked_shape.specs.LoadsShape.{IsReadable, LoadsShape};
 ghost use Rattle.sm_asked_shape.specs.ShapeTables.{FillsShape, IsReady, MakesTable};
 
+use sm_asked::sm_load::Model;
 use sm_asked::{CommandStop, load_file, refused, refused_pattern};
 use sm_codec::fill_defaults;
 use sm_compile::{CompileRefusal, OneShape, Served, compile_shape};
 use sm_ids::ShapeId;
 use sm_io::Files;
 use sm_lines::{line, unserved_line};
-use sm_load::Model;
 use sm_model::Graph;
 use sm_shapes::Patterns;
 use sm_shapes::tables::Table;
@@ -167,7 +167,7 @@ pub fn load_shape<F: Files, P: Patterns>(
         Err(stop) => return Err(stop),
     };
     drop(events);
-    sm_load::laws::sound_models();
+    sm_asked::sm_load::laws::sound_models();
     let made = table_named(alloc, &graph, shape, patterns);
     drop(graph);
     match made {

@@ -11,4 +11,6 @@ mod writing;
 
 pub use body::AwsBody;
 pub use context::AwsJson;
+pub use sm_messages;
+pub use sm_service;
 pub use version::AwsVersion;

@@ -14,3 +14,4 @@ pub use members::{has_document, is_in_document, is_payload_at, is_tree_at};
 pub use parts::Parts;
 pub use place::BoundPlace;
 pub use side::{PartSide, counts};
+pub use sm_service;

@@ -22,7 +22,7 @@ use Rattle.sm_codec.specs.WrittenObjects.{fields_among, fields_of_members, is_wr
 use Rattle.sm_codec.proofs.JsonWrites.{json_writes}
 use Rattle.sm_codec.proofs.NoFaults.{none_joined}
 use Rattle.sm_codec.proofs.WrittenForms.{written_is_json}
-use Rattle.sm_bind.specs.Roles.{Bound, binding_on, bound_members, document_members, is_in_document}
+use Rattle.sm_bind_write.specs.bind.Roles.{Bound, binding_on, bound_members, document_members, is_in_document}
 use Rattle.sm_bind_write.specs.CarriedParts.{uncarried_bound}
 use Rattle.sm_bind_write.specs.WrittenParts.{document_pairs}
 use Rattle.sm_bind_write.specs.steps.FieldsMet.{FieldsIn, FieldsReady}

@@ -4,11 +4,11 @@ use Rattle.std.specs.Prelude.{Option, None, Some}
 use Rattle.sm_rules.specs.Bindings.{BoundSide, an_error, an_input, an_output}
 use Rattle.sm_shapes.specs.TableData.{BindingData, binding_at, label, query, query_params, header, prefix_headers, payload, response_code}
 use Rattle.sm_shapes.specs.Values.{Val}
-use Rattle.sm_service.specs.WireMembers.{counted_binding}
-use Rattle.sm_messages.specs.MessageForm.{Content}
-use Rattle.sm_bind.specs.Roles.{Bound, binding_on, is_bound_payload}
-use Rattle.sm_bind.specs.steps.Growing.{counts_on}
-use Rattle.sm_bind.proofs.Counted.{kept_is}
+use Rattle.sm_bind_write.specs.service.WireMembers.{counted_binding}
+use Rattle.sm_bind_write.specs.messages.MessageForm.{Content}
+use Rattle.sm_bind_write.specs.bind.Roles.{Bound, binding_on, is_bound_payload}
+use Rattle.sm_bind_write.specs.bind.steps.Growing.{counts_on}
+use Rattle.sm_bind_write.proofs.bind.Counted.{kept_is}
 use Rattle.sm_bind_write.specs.WrittenParts.{payload_by}
 
 payload_itself : (side : BoundSide) (o : Option BindingData) → is_bound_payload o ≡ true → counted_binding side o ≡ Some payload

@@ -6,7 +6,7 @@ use Rattle.sm_shapes.specs.TableData.{TableData, kind_at}
 use Rattle.sm_shapes.specs.Values.{Val, blob_val, bool_val, int_val, list_val, map_val, null_val, structure_val, text_val, time_val, union_val}
 use Rattle.sm_shapes.specs.declared.kinds.ShapeKind.{ShapeKind}
 use Rattle.sm_shapes.specs.declared.kinds.ShapeKind.TheVariants as table
-use Rattle.sm_messages.specs.TreeBodies.{fields_in}
+use Rattle.sm_bind_write.specs.messages.TreeBodies.{fields_in}
 
 no_list : (k : ShapeKind) → k ≡ table.Structure → k ≡ table.List → ⊥
 no_list k h g = cc

@@ -1,7 +1,7 @@
 -- The bytes of a body.
 use Rattle.std.specs.Prelude.{ℕ, List, []}
 use Rattle.sm_json.specs.Written as json
-use Rattle.sm_messages.specs.MessageForm.{Content, a_tree, nothing, raw_bytes}
+use Rattle.sm_bind_write.specs.messages.MessageForm.{Content, a_tree, nothing, raw_bytes}
 
 abbrev pub content_bytes : Content → List ℕ
 content_bytes (a_tree n) = json.written n

@@ -9,12 +9,12 @@ ghost use Rattle.sm_shapes.specs.Places.{root_place};
 ghost use Rattle.sm_shapes.specs.TableData.{shape_count};
 ghost use Rattle.sm_shapes.specs.Values.{fields_of, structure_val};
 ghost use Rattle.sm_shapes.specs.ValueView.{each_field_view};
-ghost use Rattle.sm_bind.specs.BoundView.{bound_of};
-ghost use Rattle.sm_bind.specs.Roles.{bound_members, is_in_document};
+ghost use Rattle.sm_bind_write.specs.bind.BoundView.{bound_of};
+ghost use Rattle.sm_bind_write.specs.bind.Roles.{bound_members, is_in_document};
 ghost use Rattle.sm_bind_write.specs.WrittenParts.{document_pairs};
 ghost use Rattle.sm_bind_write.specs.steps.FieldsMet.{FieldsIn, FieldsReady};
 
-use sm_bind::{BoundPlace, is_in_document};
+use sm_bind_write::sm_bind::{BoundPlace, is_in_document};
 use sm_codec::{JsonLeaves, encode_object_events};
 use sm_json::JsonWriter;
 use sm_shapes::values::Value;

@@ -5,4 +5,5 @@ mod document;
 mod payload;
 mod written;
 
+pub use sm_bind_write;
 pub use written::{raw_body, written_body};

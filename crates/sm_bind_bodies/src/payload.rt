@@ -9,14 +9,14 @@ ghost use Rattle.sm_shapes.specs.Values.{fields_of};
 ghost use Rattle.sm_shapes.specs.ValueView.{each_field_view, val_of};
 ghost use Rattle.sm_codec.specs.Conventions.{json_convention};
 ghost use Rattle.sm_codec.specs.Written.{uncarried, written};
-ghost use Rattle.sm_bind.specs.BoundView.{bound_of};
-ghost use Rattle.sm_bind.specs.Roles.{Bound};
+ghost use Rattle.sm_bind_write.specs.bind.BoundView.{bound_of};
+ghost use Rattle.sm_bind_write.specs.bind.Roles.{Bound};
 ghost use Rattle.sm_bind_write.specs.CarriedParts.{uncarried_payload};
 ghost use Rattle.sm_bind_write.specs.WrittenParts.{payload_among, payload_content};
 ghost use Rattle.sm_bind_write.specs.steps.FieldsMet.{FieldsReady};
 ghost use Rattle.sm_bind_bodies.specs.WrittenBodies.{content_bytes};
 
-use sm_bind::{BoundPlace, is_payload_at};
+use sm_bind_write::sm_bind::{BoundPlace, is_payload_at};
 use sm_codec::{JsonLeaves, ValuePlace, encode_events_at};
 use sm_json::JsonWriter;
 use sm_shapes::values::Value;

@@ -6,15 +6,15 @@ ghost use Rattle.sm_shapes.specs.Places.{root_place};
 ghost use Rattle.sm_shapes.specs.TableData.{kind_at, shape_count};
 ghost use Rattle.sm_shapes.specs.ValueView.{val_of};
 ghost use Rattle.sm_shapes.specs.declared.kinds.ShapeKind.TheVariants.{Structure};
-ghost use Rattle.sm_bind.specs.BoundView.{bound_of};
+ghost use Rattle.sm_bind_write.specs.bind.BoundView.{bound_of};
 ghost use Rattle.sm_bind_write.specs.CarriedParts.{uncarried_parts};
 ghost use Rattle.sm_bind_write.specs.WrittenParts.{written_content};
 ghost use Rattle.sm_bind_bodies.specs.WrittenBodies.{content_bytes};
 
 use crate::document::document_bytes;
 use crate::payload::{payload_bytes, raw_payload};
-use sm_bind::{BoundPlace, has_document};
 use sm_bind_write::fields_in;
+use sm_bind_write::sm_bind::{BoundPlace, has_document};
 use sm_shapes::values::Value;
 use sm_tree::NoMemory;
 use std::alloc::Global;

@@ -23,11 +23,11 @@ use Rattle.sm_codec.specs.Written.{uncarried, written}
 use Rattle.sm_codec.proofs.JsonLaws.{json_laws}
 use Rattle.sm_codec.proofs.ReadValues.{one_value}
 use Rattle.sm_codec.proofs.WrittenValues.{spelled_stands, written_spells}
-use Rattle.sm_messages.specs.MessageForm.{Content, a_tree, nothing, raw_bytes}
+use Rattle.sm_bind_read.specs.messages.MessageForm.{Content, a_tree, nothing, raw_bytes}
 use Rattle.sm_parts.specs.HeaderLists.{is_filled}
 use Rattle.sm_part_values.specs.PartTexts.{raw_by}
 use Rattle.sm_part_texts.specs.CarriedTexts.{here_unless}
-use Rattle.sm_bind.specs.Roles.{Bound, binding_on, bound_members, has_document, is_in_document}
+use Rattle.sm_bind_read.specs.bind.Roles.{Bound, binding_on, bound_members, has_document, is_in_document}
 use Rattle.sm_bind_read.specs.PartFaults.{bound_codec, is_no_object}
 use Rattle.sm_bind_read.specs.Parts.{document_children, payload_children}
 use Rattle.sm_bind_write.specs.CarriedParts.{uncarried_bound, uncarried_payload}

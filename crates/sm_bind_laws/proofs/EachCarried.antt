@@ -11,7 +11,7 @@ use Rattle.sm_shapes.proofs.NamedMembers.{IsAmong}
 use Rattle.sm_codec.specs.Written.{paths_under}
 use Rattle.sm_codec.proofs.NoFaults.{none_behind, none_first}
 use Rattle.sm_codec.proofs.WrittenValues.{none_of_paths}
-use Rattle.sm_bind.specs.Roles.{Bound, binding_on, bound_members}
+use Rattle.sm_bind_read.specs.bind.Roles.{Bound, binding_on, bound_members}
 use Rattle.sm_bind_write.specs.CarriedParts.{uncarried_bound, uncarried_member, uncarried_members}
 use Rattle.sm_bind_write.specs.WrittenParts.{value_of}
 use Rattle.sm_bind_write.proofs.ReadyFields.{rising}

@@ -27,7 +27,7 @@ use Rattle.sm_part_texts.specs.CarriedTexts.{here_unless, is_carried}
 use Rattle.sm_part_texts.specs.PlaceTexts.{field_value, in_fields, prefixed_fields, text_at}
 use Rattle.sm_part_texts.specs.declared.carried.TextTest.TheVariants.{OfField}
 use Rattle.sm_part_texts.proofs.TextsHad.{passed_here}
-use Rattle.sm_bind.specs.Roles.{Bound, binding_on, bound_members, header_names, is_among, is_taken_name, reserved_names}
+use Rattle.sm_bind_read.specs.bind.Roles.{Bound, binding_on, bound_members, header_names, is_among, is_taken_name, reserved_names}
 use Rattle.sm_bind_read.specs.PartFaults.{bound_codec}
 use Rattle.sm_bind_write.specs.CarriedParts.{is_prefix_key, is_prefixed_entry, prefixed_failing, some_prefixed_failing, uncarried_bound}
 use Rattle.sm_bind_write.specs.CarriedParts.{uncarried_prefixed}

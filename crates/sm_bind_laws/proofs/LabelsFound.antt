@@ -18,7 +18,7 @@ use Rattle.sm_part_texts.specs.CarriedTexts.{is_carried}
 use Rattle.sm_part_texts.specs.PlaceTexts.{in_targets, text_at}
 use Rattle.sm_part_texts.specs.declared.carried.TextTest.TheVariants.{OfLabel}
 use Rattle.sm_part_texts.proofs.TextsHad.{passed_here}
-use Rattle.sm_bind.specs.Roles.{Bound, binding_on, bound_members}
+use Rattle.sm_bind_read.specs.bind.Roles.{Bound, binding_on, bound_members}
 use Rattle.sm_bind_read.specs.PartFaults.{bound_codec}
 use Rattle.sm_bind_write.specs.CarriedParts.{uncarried_bound}
 use Rattle.sm_bind_write.specs.WrittenParts.{member_labels, value_of, written_labels}

@@ -15,3 +15,7 @@ pub mod PrefixesFound
 pub mod StatusFound
 pub mod BodiesFound
 pub mod PartsRead
+pub use Rattle.sm_bind_read.proofs.bind
+pub use Rattle.sm_bind_read.proofs.messages
+pub use Rattle.sm_part_laws.proofs as part_laws
+pub use Rattle.sm_bind_read.proofs.service

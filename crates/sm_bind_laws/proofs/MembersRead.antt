@@ -13,9 +13,9 @@ use Rattle.sm_codec.specs.Readings.{ByMember, Child, absent_reading, absent_with
 use Rattle.sm_codec.specs.Readings.{members_faults}
 use Rattle.sm_codec.specs.Readings.{members_fields, one_here, present_reading, when_closed}
 use Rattle.sm_codec.proofs.NoFaults.{ok_reading}
-use Rattle.sm_messages.specs.MessageForm.{Content}
-use Rattle.sm_bind.specs.PartsData.{PartsData}
-use Rattle.sm_bind.specs.Roles.{Bound, bound_members, has_document}
+use Rattle.sm_bind_read.specs.messages.MessageForm.{Content}
+use Rattle.sm_bind_read.specs.bind.PartsData.{PartsData}
+use Rattle.sm_bind_read.specs.bind.Roles.{Bound, bound_members, has_document}
 use Rattle.sm_bind_read.specs.PartFaults.{bound_codec, is_no_object, parts_reading}
 use Rattle.sm_bind_read.specs.Parts.{stands}
 use Rattle.sm_bind_write.specs.WrittenParts.{value_of}

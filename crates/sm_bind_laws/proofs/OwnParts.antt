@@ -15,10 +15,10 @@ use Rattle.sm_shapes.specs.Names.{AllDiffer, NoneIs}
 use Rattle.sm_shapes.specs.TableData.{BindingData, binding_at, header, payload, prefix_headers, query, query_params}
 use Rattle.sm_shapes.specs.TableData.{response_code}
 use Rattle.sm_shapes.proofs.NamedMembers.{IsAmong}
-use Rattle.sm_service.specs.HttpServable.{IsBoundOnce}
-use Rattle.sm_service.specs.WireMembers.{WireMember, counted_binding, header_of, is_bound_by, query_of, wire_member_at, wire_members}
-use Rattle.sm_bind.specs.Roles.{Bound, binding_on, bound_members, has_document, header_names, is_among, is_in_document, query_names}
-use Rattle.sm_bind.proofs.Counted.{kept_is, kept_on}
+use Rattle.sm_bind_read.specs.service.HttpServable.{IsBoundOnce}
+use Rattle.sm_bind_read.specs.service.WireMembers.{WireMember, counted_binding, header_of, is_bound_by, query_of, wire_member_at, wire_members}
+use Rattle.sm_bind_read.specs.bind.Roles.{Bound, binding_on, bound_members, has_document, header_names, is_among, is_in_document, query_names}
+use Rattle.sm_bind_read.proofs.bind.Counted.{kept_is, kept_on}
 use Rattle.sm_bind_laws.specs.BoundRight.{IsBoundRight}
 
 -- a binding that counts is the member's own

@@ -14,7 +14,7 @@ use Rattle.sm_shapes.proofs.NamedMembers.{IsAmong}
 use Rattle.sm_parts.specs.Targets.{QueryPair}
 use Rattle.sm_part_values.specs.PartTexts.{in_target, is_list_at, keyed_by, map_or_none}
 use Rattle.sm_part_texts.specs.PlaceTexts.{in_targets, keyed_texts, pairs_under, texts_at}
-use Rattle.sm_bind.specs.Roles.{Bound, binding_on, bound_members, is_among, is_taken_key, query_names}
+use Rattle.sm_bind_read.specs.bind.Roles.{Bound, binding_on, bound_members, is_among, is_taken_key, query_names}
 use Rattle.sm_bind_read.specs.PartFaults.{bound_codec}
 use Rattle.sm_bind_read.specs.Parts.{is_of_map, params_children}
 use Rattle.sm_bind_write.specs.CarriedParts.{params_failing, uncarried_bound}

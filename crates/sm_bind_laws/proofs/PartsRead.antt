@@ -7,10 +7,10 @@ use Rattle.sm_shapes.specs.Values.{FieldVals, blob_val, bool_val, int_val, list_
 use Rattle.sm_shapes.specs.Values.{union_val}
 use Rattle.sm_shapes.specs.declared.kinds.ShapeKind.TheVariants as kind
 use Rattle.sm_shapes.proofs.NamedMembers.{IsAmong}
-use Rattle.sm_messages.specs.MessageForm.{Content}
+use Rattle.sm_bind_read.specs.messages.MessageForm.{Content}
 use Rattle.sm_part_texts.specs.Laws.{CarriedTextsPass}
-use Rattle.sm_bind.specs.PartsData.{PartsData}
-use Rattle.sm_bind.specs.Roles.{Bound, binding_on, bound_members}
+use Rattle.sm_bind_read.specs.bind.PartsData.{PartsData}
+use Rattle.sm_bind_read.specs.bind.Roles.{Bound, binding_on, bound_members}
 use Rattle.sm_bind_read.specs.PartFaults.{bound_codec, parts_reading}
 use Rattle.sm_bind_read.specs.Parts.{bound_children, stands}
 use Rattle.sm_bind_write.specs.WrittenParts.{parts_of, value_of, written_content}

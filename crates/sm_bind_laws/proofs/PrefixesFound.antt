@@ -24,7 +24,7 @@ use Rattle.sm_part_texts.specs.CarriedTexts.{here_unless, is_carried}
 use Rattle.sm_part_texts.specs.Laws.{CarriedTextsPass}
 use Rattle.sm_part_texts.specs.PlaceTexts.{field_value, in_fields, prefixed_fields, text_at}
 use Rattle.sm_part_texts.specs.declared.carried.TextTest.TheVariants.{OfField}
-use Rattle.sm_bind.specs.Roles.{Bound, binding_on, bound_members, header_names, is_among, is_taken_name, reserved_names}
+use Rattle.sm_bind_read.specs.bind.Roles.{Bound, binding_on, bound_members, header_names, is_among, is_taken_name, reserved_names}
 use Rattle.sm_bind_read.specs.PartFaults.{bound_codec}
 use Rattle.sm_bind_read.specs.Parts.{has_prefix, is_prefixed, prefixed_children, prefixed_text}
 use Rattle.sm_bind_write.specs.CarriedParts.{prefixed_failing, uncarried_bound}

@@ -20,7 +20,7 @@ use Rattle.sm_part_values.specs.PartTexts.{in_target, is_list_at, keyed_by, map_
 use Rattle.sm_part_values.specs.PartTexts as values
 use Rattle.sm_part_texts.specs.CarriedTexts.{uncarried_query}
 use Rattle.sm_part_texts.specs.PlaceTexts.{in_targets, keyed_texts, pairs_under, texts_at}
-use Rattle.sm_bind.specs.Roles.{Bound, binding_on, bound_members, is_among, is_taken_key, query_names}
+use Rattle.sm_bind_read.specs.bind.Roles.{Bound, binding_on, bound_members, is_among, is_taken_key, query_names}
 use Rattle.sm_bind_read.specs.PartFaults.{bound_codec}
 use Rattle.sm_bind_write.specs.CarriedParts.{params_failing, some_params_failing, uncarried_bound, uncarried_param, uncarried_params}
 use Rattle.sm_bind_write.specs.WrittenParts.{entries_in, member_pairs, member_params, value_of, written_pairs, written_params}

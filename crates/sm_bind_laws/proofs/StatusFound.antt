@@ -9,7 +9,7 @@ use Rattle.sm_shapes.specs.TableData.{BindingData, response_code}
 use Rattle.sm_shapes.specs.Values.{FieldVals, Val, field, int_val, no_fields}
 use Rattle.sm_shapes.proofs.NamedMembers.{IsAmong}
 use Rattle.sm_part_texts.proofs.TextsHad.{passed_here}
-use Rattle.sm_bind.specs.Roles.{Bound, binding_on, bound_members}
+use Rattle.sm_bind_read.specs.bind.Roles.{Bound, binding_on, bound_members}
 use Rattle.sm_bind_read.specs.PartFaults.{bound_codec}
 use Rattle.sm_bind_read.specs.Parts.{status_child}
 use Rattle.sm_bind_write.specs.CarriedParts.{has_body, is_bodiless, is_status, uncarried_absent, uncarried_bound, uncarried_member}

@@ -8,9 +8,9 @@ use Rattle.sm_shapes.specs.InOrder.{DefaultsPass, Shaped}
 use Rattle.sm_shapes.specs.Names.{AllDiffer}
 use Rattle.sm_shapes.specs.TableData.{header, kind_at, label, name_at, required_at, shape_count}
 use Rattle.sm_shapes.specs.declared.kinds.ShapeKind.TheVariants.{Structure}
-use Rattle.sm_service.specs.HttpServable.{HaveOwnParts, HaveOwnQueries, HaveTargets}
-use Rattle.sm_service.specs.WireMembers.{wire_members}
-use Rattle.sm_bind.specs.Roles.{Bound, binding_on, bound_members, is_among, reserved_names}
+use Rattle.sm_bind_read.specs.service.HttpServable.{HaveOwnParts, HaveOwnQueries, HaveTargets}
+use Rattle.sm_bind_read.specs.service.WireMembers.{wire_members}
+use Rattle.sm_bind_read.specs.bind.Roles.{Bound, binding_on, bound_members, is_among, reserved_names}
 
 -- Its parts are one member's each, and its targets may be bound. Of an input the labels of these names are its required members', and the
 -- names of its queries differ. No header has a name that means something else

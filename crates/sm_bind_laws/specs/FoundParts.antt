@@ -3,9 +3,9 @@ use Rattle.std.specs.Prelude.{◌≡◌, ◌⊎◌, ◌++◌, ℕ, Bool, true, L
 use Rattle.std.specs.List.{AllByRecursion}
 use Rattle.std.specs.Str.{str_to_ascii_lowercase}
 use Rattle.sm_http.specs.declared.message.Field.{Field}
-use Rattle.sm_messages.specs.MessageForm.{Content, nothing, raw_bytes}
-use Rattle.sm_bind.specs.PartsData.{PartsData}
-use Rattle.sm_bind.specs.Roles.{is_among, reserved_names}
+use Rattle.sm_bind_read.specs.messages.MessageForm.{Content, nothing, raw_bytes}
+use Rattle.sm_bind_read.specs.bind.PartsData.{PartsData}
+use Rattle.sm_bind_read.specs.bind.Roles.{is_among, reserved_names}
 use Rattle.sm_bind_laws.specs.WrittenLabels.{texts_for}
 
 -- a field of a name that means something else than a member

@@ -4,10 +4,10 @@ use Rattle.sm_shapes.specs.Fitting.{Fits, Test}
 use Rattle.sm_shapes.specs.Places.{root_place}
 use Rattle.sm_shapes.specs.Values.{Val}
 use Rattle.sm_uri.specs.UriPattern.{IsUri, UriSaid, label_names}
-use Rattle.sm_messages.specs.MessageForm.{Content}
+use Rattle.sm_bind_read.specs.messages.MessageForm.{Content}
 use Rattle.sm_routes.specs.WrittenTargets.{pairs_left, target_labels}
-use Rattle.sm_bind.specs.PartsData.{PartsData}
-use Rattle.sm_bind.specs.Roles.{Bound}
+use Rattle.sm_bind_read.specs.bind.PartsData.{PartsData}
+use Rattle.sm_bind_read.specs.bind.Roles.{Bound}
 use Rattle.sm_bind_read.specs.PartFaults.{parts_reading}
 use Rattle.sm_bind_write.specs.CarriedParts.{uncarried_parts}
 use Rattle.sm_bind_write.specs.WrittenParts.{request_target, written_content, written_parts}

@@ -37,8 +37,8 @@ use Rattle.sm_excerpts.proofs.Extending.{members_there}
 use Rattle.sm_messages.specs.MessageForm.{Content, a_tree, nothing, raw_bytes}
 use Rattle.sm_part_values.specs.Joins.{ErrsWith}
 use Rattle.sm_part_values.specs.PartTexts.{raw_by}
-use Rattle.sm_service.specs.HttpServable.{HaveOwnParts}
-use Rattle.sm_service.specs.WireMembers.{wire_members}
+use Rattle.sm_messages.specs.service.HttpServable.{HaveOwnParts}
+use Rattle.sm_messages.specs.service.WireMembers.{wire_members}
 use Rattle.sm_bind.specs.Documents.{IsBodyBy, is_tree_kind, payload_shape}
 use Rattle.sm_bind.specs.PartsData.{PartsData}
 use Rattle.sm_bind.specs.Roles.{Bound, binding_on, bound_members, document_members, has_document, is_bound_payload, is_in_document}

@@ -6,7 +6,7 @@ use Rattle.std.specs.List.{list_any}
 use Rattle.sm_rules.specs.Bindings.{BoundSide, an_error, an_input, an_output, bindings_of}
 use Rattle.sm_shapes.specs.TableData.{BindingData, TableData, binding_at, label, query, query_params, header, prefix_headers, payload}
 use Rattle.sm_shapes.specs.TableData.{response_code}
-use Rattle.sm_service.specs.WireMembers.{counted_binding, is_bound_by}
+use Rattle.sm_messages.specs.service.WireMembers.{counted_binding, is_bound_by}
 use Rattle.sm_bind.specs.Documents.{IsBodyBy, IsBodyShape}
 use Rattle.sm_bind.specs.Roles.{Bound, binding_on, bound_on, has_document, is_bound_payload}
 use Rattle.sm_bind.specs.steps.Growing.{counts_on}

@@ -10,7 +10,7 @@ use Rattle.std.specs.Str.{bytes_eq, str_to_ascii_lowercase}
 use Rattle.std.proofs.lemmas.Map.Text.{is_eq-slice_cmp}
 use Rattle.std.proofs.lemmas.Slice.Eq.{bytes_eq-Decides}
 use denote.Ref.{Bor}
-use Rattle.sm_service.specs.WireMembers.{header_of, query_of}
+use Rattle.sm_messages.specs.service.WireMembers.{header_of, query_of}
 use Rattle.sm_bind.specs.Roles.{Bound, binding_on, is_among}
 use Rattle.sm_bind_read.specs.steps.Taken.{has_text, headers_of, queries_of}
 

@@ -16,3 +16,6 @@ mod TakenLast
 mod PayloadValues
 mod BoundStands
 mod TextsAlone
+pub use Rattle.sm_bind.proofs as bind
+pub use Rattle.sm_messages.proofs as messages
+pub use Rattle.sm_messages.proofs.service

@@ -11,8 +11,8 @@ use Rattle.sm_shapes.specs.TableData.{response_code, shape_count, target_at}
 use Rattle.sm_shapes.specs.declared.kinds.ShapeKind.{ShapeKind}
 use Rattle.sm_shapes.specs.declared.kinds.ShapeKind.TheVariants as kinds
 use Rattle.sm_excerpts.proofs.Extending.{members_there}
-use Rattle.sm_service.specs.HttpServable.{HaveTargets}
-use Rattle.sm_service.specs.WireMembers.{TargetSeen, is_map_kind, may_be_bound, target_seen_at, wire_member_at, wire_members}
+use Rattle.sm_messages.specs.service.HttpServable.{HaveTargets}
+use Rattle.sm_messages.specs.service.WireMembers.{TargetSeen, is_map_kind, may_be_bound, target_seen_at, wire_member_at, wire_members}
 use Rattle.sm_bind.specs.Roles.{Bound, binding_on, bound_members}
 use Rattle.sm_bind_read.specs.steps.Coming.{IsMemberOf, is_map_bound}
 use Rattle.sm_bind_read.proofs.PayloadComes.{wire_there}

@@ -14,8 +14,8 @@ use Rattle.sm_codec.specs.FaultLists.{FaultAt}
 use Rattle.sm_codec.specs.Readings.{absent_reading, when_closed}
 use Rattle.sm_model.proofs.OneRising.{contains_behind, contains_head}
 use Rattle.sm_rules.specs.Bindings.{a_payload, bindings_of}
-use Rattle.sm_service.specs.HttpServable.{HaveOwnParts}
-use Rattle.sm_service.specs.WireMembers.{WireMember, is_bound_by, wire_member_at, wire_members}
+use Rattle.sm_messages.specs.service.HttpServable.{HaveOwnParts}
+use Rattle.sm_messages.specs.service.WireMembers.{WireMember, is_bound_by, wire_member_at, wire_members}
 use Rattle.sm_bind.specs.Documents.{is_tree_kind, payload_shape, shape_by}
 use Rattle.sm_bind.specs.Roles.{Bound, binding_on, is_bound_payload, is_in_document}
 use Rattle.sm_bind_read.specs.steps.Bodies.{is_payload_on, payload_place}

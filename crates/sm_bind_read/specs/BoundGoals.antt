@@ -1,7 +1,7 @@
 -- Where a message to a goal stands: the structure of its operation on its side, and the keys that the literals of its pattern name.
 use Rattle.std.specs.Prelude.{List, [], None, Option, Some, map, ℕ}
 use Rattle.sm_rules.specs.Bindings.{BoundSide, an_error, an_input, an_output}
-use Rattle.sm_service.specs.ServiceData.{HttpData, OperationData, ServiceData}
+use Rattle.sm_messages.specs.service.ServiceData.{HttpData, OperationData, ServiceData}
 use Rattle.sm_messages.specs.Goals.{Goal, Role, goal_shape, operation_at, the_error, the_input, the_output}
 use Rattle.sm_bind.specs.BindingsView.{BindingsData, body_at}
 use Rattle.sm_bind.specs.Roles.{Bound}

@@ -18,3 +18,6 @@ mod taken;
 
 pub use body::PartBody;
 pub use joining::join_parts;
+pub use sm_bind;
+pub use sm_messages;
+pub use sm_messages::sm_service;

@@ -4,7 +4,7 @@ ghost use Rattle.std.specs.Option.{option_map};
 ghost use Rattle.std.specs.Str.{bytes_eq, str_to_ascii_lowercase};
 ghost use Rattle.sm_shapes.specs.TableData.{binding_at, shape_count};
 ghost use Rattle.sm_shapes.specs.TableView.{binding_data, table_data};
-ghost use Rattle.sm_service.specs.WireMembers.{counted_binding, header_of, query_of};
+ghost use Rattle.sm_messages.specs.service.WireMembers.{counted_binding, header_of, query_of};
 ghost use Rattle.sm_bind.specs.BindingsView.{bound_side};
 ghost use Rattle.sm_bind.specs.BoundView.{bound_of};
 ghost use Rattle.sm_bind.specs.Roles.{is_among, is_taken_key, is_taken_name, reserved_names};

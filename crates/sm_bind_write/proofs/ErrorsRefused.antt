@@ -4,9 +4,9 @@ use Rattle.std.specs.Prelude.{None, Some}
 use Rattle.std.specs.List.{Contains}
 use Rattle.std.proofs.lemmas.List.{get_or_default}
 use Rattle.sm_rules.specs.Bindings.{an_error}
-use Rattle.sm_service.specs.declared.error.ErrorShape.{ErrorShape}
+use Rattle.sm_messages.specs.service.declared.error.ErrorShape.{ErrorShape}
 use Rattle.sm_shapes.specs.TableData.{TableData}
-use Rattle.sm_service.specs.ServiceData.{OperationData}
+use Rattle.sm_messages.specs.service.ServiceData.{OperationData}
 use Rattle.sm_messages.specs.Goals.{no_error, no_operation}
 use Rattle.sm_bind_write.specs.Restrictions.{error_root, path_below, path_or, refused_in_errors, refused_on}
 

@@ -8,3 +8,4 @@ mod FirstPaths
 mod Payloads
 mod ErrorsRefused
 mod PartsHad
+pub use Rattle.sm_bind.proofs as bind

@@ -3,7 +3,7 @@ use Rattle.std.proofs.Common.{◌≡◌, false, [], ◌∷◌, refl}
 use Rattle.std.specs.Prelude.{Option, None, Some}
 use Rattle.sm_rules.specs.Bindings.{a_payload}
 use Rattle.sm_shapes.specs.TableData.{BindingData, label, query, query_params, header, prefix_headers, payload, response_code}
-use Rattle.sm_service.specs.WireMembers.{is_bound_by}
+use Rattle.sm_messages.specs.service.WireMembers.{is_bound_by}
 use Rattle.sm_codec.specs.Encoded.{are_none}
 use Rattle.sm_bind.specs.Roles.{is_bound_payload}
 use Rattle.sm_bind_write.specs.CarriedParts.{uncarried_absent}

@@ -13,7 +13,7 @@ use Rattle.sm_shapes.specs.Values.{EntryVals, FieldVals, Val, blob_val, entry, i
 use Rattle.sm_codec.specs.Conventions.{json_convention}
 use Rattle.sm_codec.specs.Written.{paths_under, uncarried}
 use Rattle.sm_messages.specs.TreeBodies.{fields_in}
-use Rattle.sm_service.specs.WireMembers.{stands_in_body, wire_member_at}
+use Rattle.sm_messages.specs.service.WireMembers.{stands_in_body, wire_member_at}
 use Rattle.sm_parts.specs.HeaderLists.{is_filled}
 use Rattle.sm_part_texts.specs.CarriedTexts.{here_unless, is_carried, uncarried_field, uncarried_query}
 use Rattle.sm_part_texts.specs.declared.carried.TextTest.TheVariants.{OfField, OfLabel}

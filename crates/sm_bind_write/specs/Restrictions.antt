@@ -8,9 +8,9 @@ use Rattle.sm_shapes.specs.TableData.{media_type_at, members_at, name_at, respon
 use Rattle.sm_shapes.specs.declared.kinds.ShapeKind.{ShapeKind}
 use Rattle.sm_shapes.specs.declared.kinds.ShapeKind.TheVariants as table
 use Rattle.sm_rules.specs.Bindings.{BoundSide, an_error, an_input, an_output}
-use Rattle.sm_service.specs.ServiceData.{HttpData, OperationData, ServiceData, name_of_error}
-use Rattle.sm_service.specs.WireMembers.{counted_binding, is_string_kind}
-use Rattle.sm_service.specs.declared.error.ErrorShape.{ErrorShape}
+use Rattle.sm_messages.specs.service.ServiceData.{HttpData, OperationData, ServiceData, name_of_error}
+use Rattle.sm_messages.specs.service.WireMembers.{counted_binding, is_string_kind}
+use Rattle.sm_messages.specs.service.declared.error.ErrorShape.{ErrorShape}
 use Rattle.sm_messages.specs.Goals.{operation_at}
 use Rattle.sm_parts.specs.HeaderLists.{is_filled}
 use Rattle.sm_routes.specs.Routes.{is_routed}

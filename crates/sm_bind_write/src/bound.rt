@@ -3,7 +3,7 @@ ghost use Rattle.std.specs.Prelude.{◌≡◌};
 ghost use Rattle.std.specs.Option.{option_map};
 ghost use Rattle.sm_shapes.specs.TableData.{binding_at};
 ghost use Rattle.sm_shapes.specs.TableView.{binding_data, table_data};
-ghost use Rattle.sm_service.specs.WireMembers.{counted_binding};
+ghost use Rattle.sm_messages.specs.service.WireMembers.{counted_binding};
 ghost use Rattle.sm_bind.specs.BindingsView.{bound_side};
 
 use sm_bind::{PartSide, counts};

@@ -18,4 +18,5 @@ mod writing;
 pub use carried::{is_carried, not_carried};
 pub use met::fields_in;
 pub use restrictions::{is_media_type, restriction};
+pub use sm_bind;
 pub use writing::split;

@@ -4,7 +4,7 @@ ghost use Rattle.std.specs.List.{list_any};
 ghost use Rattle.sm_shapes.specs.TableData.{shape_count};
 ghost use Rattle.sm_shapes.specs.TableView.{table_data};
 ghost use Rattle.sm_shapes.specs.ValueView.{val_of};
-ghost use Rattle.sm_service.specs.WireMembers.{stands_in_body, wire_member_at};
+ghost use Rattle.sm_messages.specs.service.WireMembers.{stands_in_body, wire_member_at};
 ghost use Rattle.sm_bind.specs.BoundView.{bound_of};
 ghost use Rattle.sm_bind_write.specs.CarriedParts.{has_body, is_bodiless, is_status, is_success};
 

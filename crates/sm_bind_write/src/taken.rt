@@ -11,7 +11,7 @@ ghost use Rattle.httparse.specs.Grammar.{is_token, is_token_byte};
 ghost use Rattle.sm_parts.specs.HeaderLists.{is_filled};
 ghost use Rattle.sm_shapes.specs.TableData.{shape_count};
 ghost use Rattle.sm_shapes.specs.TableView.{binding_data, table_data};
-ghost use Rattle.sm_service.specs.WireMembers.{header_of, query_of};
+ghost use Rattle.sm_messages.specs.service.WireMembers.{header_of, query_of};
 ghost use Rattle.sm_bind.specs.BoundView.{bound_of};
 ghost use Rattle.sm_bind.specs.Roles.{binding_on, is_among, is_taken_key, is_taken_name, reserved_names};
 ghost use Rattle.sm_bind_write.specs.CarriedParts.{is_prefix_key};

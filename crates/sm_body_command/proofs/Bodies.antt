@@ -13,18 +13,18 @@ use Rattle.sm_shapes.specs.TableView.{table_data}
 use Rattle.sm_bodies.specs.TextAnswers.{TextAnswer, TextAnswers}
 use Rattle.sm_bodies.specs.declared.form.BodyForm.{BodyForm}
 use Rattle.sm_compile.specs.Answers.{StoreSeen}
-use Rattle.sm_asked.specs.Answer.{Answer, came}
-use Rattle.sm_asked.specs.Answer.InputUse.{to_its_end, past_its_limit}
-use Rattle.sm_asked.specs.CommandAsked.{CommandAsked, Answers, ReadFails, StopsShort, told_by}
-use Rattle.sm_asked.specs.Comes.{StepComesTo, EndsWithLimit, CommandComesTo}
-use Rattle.sm_asked.specs.Limits.{body_limit}
-use Rattle.sm_asked.specs.Lines.{body_limit_line}
-use Rattle.sm_asked.specs.Outside.{InputsSeen, inputs_seen}
-use Rattle.sm_asked.specs.Stages.{Told}
-use Rattle.sm_asked.specs.declared.stop.CommandStop.{CommandStop}
-use Rattle.sm_asked.proofs.Answered.{none_is_some}
-use Rattle.sm_asked.proofs.LongFiles.{long_list}
-use Rattle.sm_asked.proofs.Stops.{limit_stops, comes_map}
+use Rattle.sm_asked_shape.specs.asked.Answer.{Answer, came}
+use Rattle.sm_asked_shape.specs.asked.Answer.InputUse.{to_its_end, past_its_limit}
+use Rattle.sm_asked_shape.specs.asked.CommandAsked.{CommandAsked, Answers, ReadFails, StopsShort, told_by}
+use Rattle.sm_asked_shape.specs.asked.Comes.{StepComesTo, EndsWithLimit, CommandComesTo}
+use Rattle.sm_asked_shape.specs.asked.Limits.{body_limit}
+use Rattle.sm_asked_shape.specs.asked.Lines.{body_limit_line}
+use Rattle.sm_asked_shape.specs.asked.Outside.{InputsSeen, inputs_seen}
+use Rattle.sm_asked_shape.specs.asked.Stages.{Told}
+use Rattle.sm_asked_shape.specs.asked.declared.stop.CommandStop.{CommandStop}
+use Rattle.sm_asked_shape.proofs.asked.Answered.{none_is_some}
+use Rattle.sm_asked_shape.proofs.asked.LongFiles.{long_list}
+use Rattle.sm_asked_shape.proofs.asked.Stops.{limit_stops, comes_map}
 use Rattle.sm_asked_shape.specs.LoadsShape.{IsLoadedShape, LoadsShape}
 use Rattle.sm_asked_shape.specs.ShapeStages.{ShapeServed, table_of}
 use Rattle.sm_asked_shape.specs.declared.shape.LoadedShape.{LoadedShape}

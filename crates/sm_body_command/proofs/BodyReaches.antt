@@ -1,11 +1,11 @@
 -- The command `body` leaves the input untouched, or reaches it; and it writes no file.
 use Rattle.std.proofs.Common.{◌≡◌, ◌⊎◌, ℕ, List, None, inl, inr, ap, sym, ◌∙◌, refl}
 use Rattle.sm_bodies.specs.declared.form.BodyForm.{BodyForm}
-use Rattle.sm_asked.specs.Answer.{Came}
-use Rattle.sm_asked.specs.Answer.InputUse.{untouched}
-use Rattle.sm_asked.specs.AskedLaws.{ReachesInput, WritesAsNamed}
-use Rattle.sm_asked.specs.Stages.{Told}
-use Rattle.sm_asked.proofs.Answered.{none_is_some}
+use Rattle.sm_asked_shape.specs.asked.Answer.{Came}
+use Rattle.sm_asked_shape.specs.asked.Answer.InputUse.{untouched}
+use Rattle.sm_asked_shape.specs.asked.AskedLaws.{ReachesInput, WritesAsNamed}
+use Rattle.sm_asked_shape.specs.asked.Stages.{Told}
+use Rattle.sm_asked_shape.proofs.asked.Answered.{none_is_some}
 use Rattle.sm_asked_shape.specs.ShapeStages.{ShapeServed}
 use Rattle.sm_body_command.specs.Body.{BodySays, body_asked}
 use Rattle.sm_body_command.specs.Body.BodySays.{not_served, long_input, by_text}

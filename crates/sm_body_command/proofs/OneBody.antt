@@ -7,11 +7,11 @@ use Rattle.sm_codec.specs.FilledLaws.{IsFilled}
 use Rattle.sm_bodies.specs.TextAnswers.{TextAnswer, TextAnswers}
 use Rattle.sm_bodies.specs.TextLaws.{OneTextAnswer}
 use Rattle.sm_bodies.specs.declared.form.BodyForm.{BodyForm}
-use Rattle.sm_asked.specs.Answer.{Came, came}
-use Rattle.sm_asked.specs.Answer.InputUse.{untouched, to_its_end}
-use Rattle.sm_asked.specs.Limits.{body_limit}
-use Rattle.sm_asked.specs.Stages.{Told, IsInput}
-use Rattle.sm_asked.proofs.ToldAll.{IsToldWhole}
+use Rattle.sm_asked_shape.specs.asked.Answer.{Came, came}
+use Rattle.sm_asked_shape.specs.asked.Answer.InputUse.{untouched, to_its_end}
+use Rattle.sm_asked_shape.specs.asked.Limits.{body_limit}
+use Rattle.sm_asked_shape.specs.asked.Stages.{Told, IsInput}
+use Rattle.sm_asked_shape.proofs.asked.ToldAll.{IsToldWhole}
 use Rattle.sm_asked_shape.specs.ShapeStages.{TableMade, table_of}
 use Rattle.sm_asked_shape.proofs.OneShape.{shape_apart, shape_same, tables_same}
 use Rattle.sm_asked_shape.proofs.TablesMade.{number_within, is_filled}

@@ -9,13 +9,13 @@ use Rattle.sm_codec.specs.FilledLaws.{IsFilled}
 use Rattle.sm_bodies.specs.TextLaws.{SomeTextAnswer}
 use Rattle.sm_bodies.specs.declared.form.BodyForm.{BodyForm}
 use Rattle.sm_compile.specs.Laws.{SomeTable}
-use Rattle.sm_load.specs.Laws.{SomeLoad, SoundModels}
-use Rattle.sm_asked.specs.Answer.{Came, came, past}
-use Rattle.sm_asked.specs.Answer.InputUse.{untouched, to_its_end, past_its_limit}
-use Rattle.sm_asked.specs.AskedLaws.{AreThere, TellsAll}
-use Rattle.sm_asked.specs.Limits.{body_limit}
-use Rattle.sm_asked.specs.Lines.{body_limit_line}
-use Rattle.sm_asked.specs.Stages.{Told, IsInput}
+use Rattle.sm_asked_shape.specs.load.Laws.{SomeLoad, SoundModels}
+use Rattle.sm_asked_shape.specs.asked.Answer.{Came, came, past}
+use Rattle.sm_asked_shape.specs.asked.Answer.InputUse.{untouched, to_its_end, past_its_limit}
+use Rattle.sm_asked_shape.specs.asked.AskedLaws.{AreThere, TellsAll}
+use Rattle.sm_asked_shape.specs.asked.Limits.{body_limit}
+use Rattle.sm_asked_shape.specs.asked.Lines.{body_limit_line}
+use Rattle.sm_asked_shape.specs.asked.Stages.{Told, IsInput}
 use Rattle.sm_asked_shape.specs.ShapeStages.{ShapeServed, table_of}
 use Rattle.sm_asked_shape.proofs.SomeShape.{shape_answered}
 use Rattle.sm_asked_shape.proofs.TablesMade.{number_within, is_filled}

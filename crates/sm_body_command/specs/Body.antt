@@ -6,12 +6,12 @@ use Rattle.sm_shapes.specs.Places.{root_place}
 use Rattle.sm_bodies.specs.TextAnswers.{TextAnswer, TextAnswers, the_text, the_refusal, the_fault}
 use Rattle.sm_bodies.specs.declared.form.BodyForm.{BodyForm}
 use Rattle.sm_lines.specs.Lines.{fault_line, syntax_line}
-use Rattle.sm_asked.specs.Answer.{Answer, Came, done, refused, past, came}
-use Rattle.sm_asked.specs.Answer.InputUse.{untouched, to_its_end, past_its_limit}
-use Rattle.sm_asked.specs.CommandAsked.{CommandAsked}
-use Rattle.sm_asked.specs.Limits.{body_limit}
-use Rattle.sm_asked.specs.Lines.{body_limit_line}
-use Rattle.sm_asked.specs.Stages.{Told, IsInput}
+use Rattle.sm_asked_shape.specs.asked.Answer.{Answer, Came, done, refused, past, came}
+use Rattle.sm_asked_shape.specs.asked.Answer.InputUse.{untouched, to_its_end, past_its_limit}
+use Rattle.sm_asked_shape.specs.asked.CommandAsked.{CommandAsked}
+use Rattle.sm_asked_shape.specs.asked.Limits.{body_limit}
+use Rattle.sm_asked_shape.specs.asked.Lines.{body_limit_line}
+use Rattle.sm_asked_shape.specs.asked.Stages.{Told, IsInput}
 use Rattle.sm_asked_shape.specs.ShapeAnswers.{ShapeAnswers}
 use Rattle.sm_asked_shape.specs.ShapeStages.{ShapeServed, table_of}
 use Rattle.sm_body_command.specs.BodyStages.{InputRead}

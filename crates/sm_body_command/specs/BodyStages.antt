@@ -1,7 +1,7 @@
 -- How far the command `body` has come behind a shape of its model file whose values are served, over bytes alone: the input is read.
 use Rattle.std.specs.Prelude.{ℕ, ◌≤◌, List, length}
-use Rattle.sm_asked.specs.Limits.{body_limit}
-use Rattle.sm_asked.specs.Stages.{Told, IsInput}
+use Rattle.sm_asked_shape.specs.asked.Limits.{body_limit}
+use Rattle.sm_asked_shape.specs.asked.Stages.{Told, IsInput}
 use Rattle.sm_asked_shape.specs.ShapeStages.{ShapeServed}
 
 -- the input is within its limit

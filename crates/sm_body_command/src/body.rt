@@ -9,14 +9,14 @@ ghost use Rattle.sm_shapes.specs.TableView.{table_data};
 ghost use Rattle.sm_bodies.specs.AnswerView.{text_answer};
 ghost use Rattle.sm_compile.specs.Answers.{seen_store};
 ghost use Rattle.sm_body_command.specs.Body.{body_asked, printed};
-ghost use Rattle.sm_asked.specs.Outside.{inputs_seen};
-ghost use Rattle.sm_asked.specs.CommandAsked.{OnlyAdds};
-ghost use Rattle.sm_asked.specs.Comes.{CommandComesTo, StepComesTo};
+ghost use Rattle.sm_asked_shape.specs.asked.Outside.{inputs_seen};
+ghost use Rattle.sm_asked_shape.specs.asked.CommandAsked.{OnlyAdds};
+ghost use Rattle.sm_asked_shape.specs.asked.Comes.{CommandComesTo, StepComesTo};
 ghost use Rattle.sm_body_command.specs.steps.BodySteps.{InputComesTo, PrintsText};
 
 use crate::words::BodyWords;
-use sm_asked::{CommandStop, limit_line, past, refused};
 use sm_asked_shape::load_shape;
+use sm_asked_shape::sm_asked::{CommandStop, limit_line, past, refused};
 use sm_bodies::{BodyAnswer, translated};
 use sm_io::{Files, ReadRefusal, Source, read_all};
 use sm_lines::{fault_line, syntax_line};

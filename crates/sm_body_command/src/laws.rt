@@ -1,7 +1,7 @@
 // What holds of what the command comes to. These calls do nothing.
 ghost use Rattle.std.specs.Prelude.{List, ℕ};
 ghost use Rattle.sm_bodies.specs.declared.form.BodyForm.{BodyForm};
-ghost use Rattle.sm_asked.specs.AskedLaws.{ComesToOne, ComesToSome, ReachesInput};
+ghost use Rattle.sm_asked_shape.specs.asked.AskedLaws.{ComesToOne, ComesToSome, ReachesInput};
 ghost use Rattle.sm_body_command.specs.Body.{body_asked};
 
 /// A model file, an input and a store of patterns come to one thing.
@@ -17,8 +17,8 @@ pub fn some_answer()
 {
     sm_bodies::laws::some_text_answer();
     sm_compile::laws::some_table();
-    sm_load::laws::some_load();
-    sm_load::laws::sound_models();
+    sm_asked_shape::sm_load::laws::some_load();
+    sm_asked_shape::sm_load::laws::sound_models();
 }
 
 /// The input is read only where nothing that stands before it is refused.

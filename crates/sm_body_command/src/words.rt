@@ -2,7 +2,7 @@
 ghost use Rattle.std.specs.Prelude.{◌≡◌, List, ℕ, MatchOption};
 ghost use Rattle.sm_body_command.specs.BodyWords.{IsBodyForm, form_word};
 
-use sm_asked::is_word;
+use sm_asked_shape::sm_asked::is_word;
 use sm_bodies::BodyForm;
 use sm_tree::Text;
 

@@ -2,11 +2,11 @@
 use Rattle.std.proofs.Common.{ℕ, Bool, List, Option, refl}
 use Rattle.sm_bodies.specs.declared.form.BodyForm.{BodyForm}
 use Rattle.sm_io.specs.Files.{Folder}
-use Rattle.sm_asked.specs.Answer.{Answer}
-use Rattle.sm_asked.specs.CommandAsked.{CommandAsked, over_files}
-use Rattle.sm_asked.specs.AskedLaws.{ReachesInput}
-use Rattle.sm_asked.proofs.OverFiles.{none_over_files, reach_over_files}
-use Rattle.sm_asked_ends.proofs.WholeEnds.{PutsWhole}
+use Rattle.sm_model_commands.specs.asked.Answer.{Answer}
+use Rattle.sm_model_commands.specs.asked.CommandAsked.{CommandAsked, over_files}
+use Rattle.sm_model_commands.specs.asked.AskedLaws.{ReachesInput}
+use Rattle.sm_model_commands.proofs.asked.OverFiles.{none_over_files, reach_over_files}
+use Rattle.sm_cross_command.proofs.asked_ends.WholeEnds.{PutsWhole}
 use Rattle.sm_model_commands.specs.Check.{CheckSays, check_asked}
 use Rattle.sm_model_commands.specs.Convert.{ConvertSays, convert_asked}
 use Rattle.sm_model_commands.specs.Forms.{GraphForm, graph_form}

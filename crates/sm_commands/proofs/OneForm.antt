@@ -2,7 +2,7 @@
 use Rattle.std.proofs.Common.{◌≡◌, ℕ, Bool, false, true≢false, List, [], ◌∷◌, ◌++◌, sym, ap, ◌∙◌, refl, codes, bytes_eq}
 use Rattle.std.proofs.lemmas.Slice.Eq.{bytes_eq-Decides}
 use Rattle.sm_bodies.specs.declared.form.BodyForm.{BodyForm}
-use Rattle.sm_asked.proofs.OverModels.{alone_same, over_same}
+use Rattle.sm_model_commands.proofs.asked.OverModels.{alone_same, over_same}
 use Rattle.sm_model_commands.specs.Forms.{GraphForm, IsCheckForm, IsConvertForm, IsSelectForm}
 use Rattle.sm_model_commands.proofs.GraphWords.{convert_words_same}
 use Rattle.sm_body_command.specs.BodyWords.{IsBodyForm, form_word}

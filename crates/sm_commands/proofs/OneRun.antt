@@ -6,18 +6,18 @@ use Rattle.sm_io.specs.Files.{Folder}
 use Rattle.sm_io.specs.Causes.{last_count}
 use Rattle.sm_io.proofs.Counts.{quiet_not_rose}
 use Rattle.sm_compile.specs.Answers.{StoreSeen}
-use Rattle.sm_asked.specs.Outside.{InputsSeen, Outside}
+use Rattle.sm_model_commands.specs.asked.Outside.{InputsSeen, Outside}
 use Rattle.sm_commands.specs.Commands.{IsNoForm, asked_of}
-use Rattle.sm_asked.specs.Answer.{Answer, Came, came_writing}
-use Rattle.sm_asked.specs.Stages.{Told}
+use Rattle.sm_model_commands.specs.asked.Answer.{Answer, Came, came_writing}
+use Rattle.sm_model_commands.specs.asked.Stages.{Told}
 use Rattle.sm_commands.specs.Says.{OneAnswer}
-use Rattle.sm_asked.specs.AskedLaws.{ComesToOne, TellsAll}
-use Rattle.sm_asked.specs.CommandAsked.{CommandAsked, Answers, RefusedBy, told_by}
-use Rattle.sm_asked_ends.specs.AskedEnds.{AnswersFor, IsWritten, PrintsFor}
+use Rattle.sm_model_commands.specs.asked.AskedLaws.{ComesToOne, TellsAll}
+use Rattle.sm_model_commands.specs.asked.CommandAsked.{CommandAsked, Answers, RefusedBy, told_by}
+use Rattle.sm_cross_command.specs.asked_ends.AskedEnds.{AnswersFor, IsWritten, PrintsFor}
 use Rattle.sm_commands.specs.Run.{ForCommand, Prints, RunEnds}
 use Rattle.sm_commands.specs.RunLaws.{EndAlike, IsAnswered, IsAnsweredRun, OneRunAnswer}
-use Rattle.sm_asked.specs.declared.status.Status.{Status}
-use Rattle.sm_asked.specs.declared.status.Status.TheVariants.{Done, Refused, Usage, ReadFault, WriteFault, NoMemory, Pattern, Limit}
+use Rattle.sm_model_commands.specs.asked.declared.status.Status.{Status}
+use Rattle.sm_model_commands.specs.asked.declared.status.Status.TheVariants.{Done, Refused, Usage, ReadFault, WriteFault, NoMemory, Pattern, Limit}
 use Rattle.sm_commands.proofs.OneForm.{one_form}
 
 -- a store that isn't at its last count refused one pattern at most

@@ -3,15 +3,15 @@
 use Rattle.std.proofs.Common.{◌≡◌, ℕ, List, Option, None, Some, inl, inr, ap, subst, refl}
 use Rattle.std.specs.Prelude.{true, false}
 use Rattle.sm_io.proofs.Counts.{quiet_not_rose}
-use Rattle.sm_asked.specs.Answer.{Answer}
-use Rattle.sm_asked.specs.CommandAsked.{Answers, CommandAsked, RefusedBy, StopsShort, told_by}
-use Rattle.sm_asked.specs.AskedLaws.{ReachesInput}
-use Rattle.sm_asked.specs.Outside.{InputsSeen, Outside}
-use Rattle.sm_asked.specs.declared.status.Status.{Status}
-use Rattle.sm_asked.specs.declared.status.Status.TheVariants.{Done, Refused, Usage, ReadFault, WriteFault, NoMemory, Pattern, Limit}
+use Rattle.sm_model_commands.specs.asked.Answer.{Answer}
+use Rattle.sm_model_commands.specs.asked.CommandAsked.{Answers, CommandAsked, RefusedBy, StopsShort, told_by}
+use Rattle.sm_model_commands.specs.asked.AskedLaws.{ReachesInput}
+use Rattle.sm_model_commands.specs.asked.Outside.{InputsSeen, Outside}
+use Rattle.sm_model_commands.specs.asked.declared.status.Status.{Status}
+use Rattle.sm_model_commands.specs.asked.declared.status.Status.TheVariants.{Done, Refused, Usage, ReadFault, WriteFault, NoMemory, Pattern, Limit}
 use Rattle.sm_commands.specs.Commands.{Command, IsCommandForm, asked_of}
-use Rattle.sm_asked_ends.specs.AskedEnds.{AnswersFor, MemoryEnds, ReadEnds, WriteEnds}
-use Rattle.sm_asked_ends.proofs.EndsPrinted.{comes_short}
+use Rattle.sm_cross_command.specs.asked_ends.AskedEnds.{AnswersFor, MemoryEnds, ReadEnds, WriteEnds}
+use Rattle.sm_cross_command.proofs.asked_ends.EndsPrinted.{comes_short}
 use Rattle.sm_commands.specs.RunLaws.{IsQuiet, QuietRunAnswers, KeepsInput, KeepsRefusals}
 use Rattle.sm_commands.proofs.OneForm.{one_form}
 use Rattle.sm_commands.proofs.Commanded.{input_reached}

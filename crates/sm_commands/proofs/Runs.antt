@@ -2,12 +2,12 @@
 use Rattle.std.proofs.Common.{◌≡◌, ◌≢◌, ℕ, List, [], Option, Some, None, sym, subst, refl, arith}
 use Rattle.std.specs.Prelude.{Contains}
 use Rattle.sm_io.specs.Files.{Folder, KeepsOthers}
-use Rattle.sm_asked.specs.Answer.{code_of}
-use Rattle.sm_asked.specs.CommandAsked.{CommandAsked}
-use Rattle.sm_asked.specs.Outside.{Outside}
-use Rattle.sm_asked.specs.declared.status.Status.{Status}
-use Rattle.sm_asked.specs.declared.status.Status.TheVariants.{Done, Refused, Usage, ReadFault, WriteFault, NoMemory, Pattern, Limit}
-use Rattle.sm_asked_ends.specs.AskedEnds.{AskedEnds, StandsAsBefore}
+use Rattle.sm_model_commands.specs.asked.Answer.{code_of}
+use Rattle.sm_model_commands.specs.asked.CommandAsked.{CommandAsked}
+use Rattle.sm_model_commands.specs.asked.Outside.{Outside}
+use Rattle.sm_model_commands.specs.asked.declared.status.Status.{Status}
+use Rattle.sm_model_commands.specs.asked.declared.status.Status.TheVariants.{Done, Refused, Usage, ReadFault, WriteFault, NoMemory, Pattern, Limit}
+use Rattle.sm_cross_command.specs.asked_ends.AskedEnds.{AskedEnds, StandsAsBefore}
 use Rattle.sm_cross_command.specs.Cross.{cross_asked}
 use Rattle.sm_cross_command.specs.CrossWords.{CrossAsked}
 use Rattle.sm_commands.specs.Commands.{Command, IsCommandForm, asked_of}

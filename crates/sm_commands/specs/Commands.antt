@@ -1,7 +1,7 @@
 -- The commands as data: the form of each one's words, and what each asks.
 use Rattle.std.specs.Prelude.{◌≡◌, ℕ, Bool, List, codes, Contains}
 use Rattle.sm_bodies.specs.declared.form.BodyForm.{BodyForm}
-use Rattle.sm_asked.specs.CommandAsked.{CommandAsked}
+use Rattle.sm_model_commands.specs.asked.CommandAsked.{CommandAsked}
 use Rattle.sm_model_commands.specs.Check.{check_asked}
 use Rattle.sm_model_commands.specs.Convert.{convert_asked}
 use Rattle.sm_model_commands.specs.Forms.{GraphForm, IsCheckForm, IsConvertForm, IsSelectForm}

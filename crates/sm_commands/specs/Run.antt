@@ -2,12 +2,12 @@
 -- on bytes hold where the outside tells them.
 use Rattle.std.specs.Prelude.{◌≡◌, ℕ, List, [], Option, Contains}
 use Rattle.sm_io.specs.Files.{Folder}
-use Rattle.sm_asked.specs.Answer.{code_of}
-use Rattle.sm_asked.specs.CommandAsked.{CommandAsked}
-use Rattle.sm_asked.specs.Outside.{Outside}
-use Rattle.sm_asked.specs.declared.status.Status.{Status}
-use Rattle.sm_asked.specs.declared.status.Status.TheVariants.{Done, Refused, Usage, ReadFault, WriteFault, NoMemory, Pattern, Limit}
-use Rattle.sm_asked_ends.specs.AskedEnds.{AnswersFor, MemoryEnds, ReadEnds, StandsAsBefore, WriteEnds}
+use Rattle.sm_model_commands.specs.asked.Answer.{code_of}
+use Rattle.sm_model_commands.specs.asked.CommandAsked.{CommandAsked}
+use Rattle.sm_model_commands.specs.asked.Outside.{Outside}
+use Rattle.sm_model_commands.specs.asked.declared.status.Status.{Status}
+use Rattle.sm_model_commands.specs.asked.declared.status.Status.TheVariants.{Done, Refused, Usage, ReadFault, WriteFault, NoMemory, Pattern, Limit}
+use Rattle.sm_cross_command.specs.asked_ends.AskedEnds.{AnswersFor, MemoryEnds, ReadEnds, StandsAsBefore, WriteEnds}
 use Rattle.sm_commands.specs.Commands.{Command, IsCommandForm, IsNoForm, asked_of}
 
 -- a file that the words don't name to be written is as it was

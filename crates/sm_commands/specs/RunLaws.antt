@@ -4,16 +4,16 @@ use Rattle.std.specs.Io.KnownBytes.{Appends}
 use Rattle.sm_io.specs.Causes.{Quiet, last_count}
 use Rattle.sm_io.specs.Files.{Folder}
 use Rattle.sm_io.specs.Seen.{QuietFiles}
-use Rattle.sm_asked.specs.Answer.{FileWritten}
-use Rattle.sm_asked.specs.Outside.{Outside}
-use Rattle.sm_asked_ends.specs.AskedEnds.{IsWritten}
+use Rattle.sm_model_commands.specs.asked.Answer.{FileWritten}
+use Rattle.sm_model_commands.specs.asked.Outside.{Outside}
+use Rattle.sm_cross_command.specs.asked_ends.AskedEnds.{IsWritten}
 use Rattle.sm_commands.specs.Commands.{Command, IsCommandForm, asked_of}
-use Rattle.sm_asked.specs.Stages.{Told}
-use Rattle.sm_asked.specs.AskedLaws.{TellsAll}
+use Rattle.sm_model_commands.specs.asked.Stages.{Told}
+use Rattle.sm_model_commands.specs.asked.AskedLaws.{TellsAll}
 use Rattle.sm_commands.specs.Run.{Prints, RunEnds}
-use Rattle.sm_asked.specs.CommandAsked.{RefusedBy, told_by}
-use Rattle.sm_asked.specs.declared.status.Status.{Status}
-use Rattle.sm_asked.specs.declared.status.Status.TheVariants.{Done, Refused, Usage, ReadFault, WriteFault, NoMemory, Pattern, Limit}
+use Rattle.sm_model_commands.specs.asked.CommandAsked.{RefusedBy, told_by}
+use Rattle.sm_model_commands.specs.asked.declared.status.Status.{Status}
+use Rattle.sm_model_commands.specs.asked.declared.status.Status.TheVariants.{Done, Refused, Usage, ReadFault, WriteFault, NoMemory, Pattern, Limit}
 
 -- the status is of an answer: neither `NoMemory` nor that of a fault of the outside
 abbrev pub IsAnswered : Status → Type 0

@@ -1,5 +1,5 @@
 -- What holds of all commands: each comes to one thing, to some, and reads the input for none but those behind its stage.
-use Rattle.sm_asked.specs.AskedLaws.{ComesToOne, ComesToSome, ReachesInput}
+use Rattle.sm_model_commands.specs.asked.AskedLaws.{ComesToOne, ComesToSome, ReachesInput}
 use Rattle.sm_commands.specs.Commands.{Command, asked_of}
 
 -- a law: what is told determines what a command comes to

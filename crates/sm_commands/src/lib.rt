@@ -6,4 +6,4 @@ pub mod laws;
 mod words;
 
 pub use command::run;
-pub use sm_asked::Status;
+pub use sm_model_commands::sm_asked::Status;

@@ -9,23 +9,23 @@ use Rattle.sm_io.specs.Writing.{AppendsPrefix}
 use Rattle.sm_io.specs.declared.files.FileRefusal.{FileRefusal}
 use Rattle.sm_io.specs.declared.files.FileRefusal.TheVariants.{Failed, TooLong, NoMemory as no_room}
 use Rattle.sm_io.proofs.Counts.{quiet_not_rose}
-use Rattle.sm_load.specs.Laws.{ReadyModels}
-use Rattle.sm_service.specs.Laws.{OneService}
+use Rattle.sm_asked_ends.specs.load.Laws.{ReadyModels}
+use Rattle.sm_asked_gateway.specs.service.Laws.{OneService}
 use Rattle.sm_session.specs.Sessions.{SessionSaid, flat}
 use Rattle.sm_session.specs.declared.session_end.SessionEnd.{SessionEnd}
 use Rattle.sm_session.specs.declared.session_end.SessionEnd.TheVariants.{Closed, Quota, FrontEnded, BackEnded, FrontFraming, BackFraming}
 use Rattle.sm_session.specs.declared.session_end.SessionEnd.TheVariants.{FrontRead, FrontWrite, BackRead, BackWrite, NoMemory}
-use Rattle.sm_asked.specs.Answer.{Came, came_writing}
-use Rattle.sm_asked.specs.Answer.InputUse.{in_part}
-use Rattle.sm_asked.specs.AskedLaws.{TellsAll}
-use Rattle.sm_asked.specs.CommandAsked.{told_by}
-use Rattle.sm_asked.specs.Outside.{Outside}
-use Rattle.sm_asked.specs.Stages.{Told, IsInput}
-use Rattle.sm_asked.specs.declared.status.Status.{Status}
-use Rattle.sm_asked.proofs.Answered.{none_is_some}
+use Rattle.sm_asked_ends.specs.asked.Answer.{Came, came_writing}
+use Rattle.sm_asked_ends.specs.asked.Answer.InputUse.{in_part}
+use Rattle.sm_asked_ends.specs.asked.AskedLaws.{TellsAll}
+use Rattle.sm_asked_ends.specs.asked.CommandAsked.{told_by}
+use Rattle.sm_asked_ends.specs.asked.Outside.{Outside}
+use Rattle.sm_asked_ends.specs.asked.Stages.{Told, IsInput}
+use Rattle.sm_asked_ends.specs.asked.declared.status.Status.{Status}
+use Rattle.sm_asked_ends.proofs.asked.Answered.{none_is_some}
 use Rattle.sm_asked_ends.specs.AskedEnds.{AnswersFor, AskedEnds, HasStreamed, IsWrittenInPart, PrintsFor, PutsPart, WritesPart}
-use Rattle.sm_gateway.specs.GatewayTurns.{Session}
-use Rattle.sm_gateway.specs.GatewayView.{gateway_data}
+use Rattle.sm_asked_gateway.specs.gateway.GatewayTurns.{Session}
+use Rattle.sm_asked_gateway.specs.gateway.GatewayView.{gateway_data}
 use Rattle.sm_cross_command.specs.Cross.{CrossSays, cross_asked, end_status, requests_file, session_answer}
 use Rattle.sm_cross_command.specs.Cross.CrossSays.{not_opened, session}
 use Rattle.sm_cross_command.specs.CrossStages.{CrossOpens, gateway_of}

@@ -2,10 +2,10 @@
 use Rattle.std.proofs.Common.{◌≡◌, ℕ, List, [], ◌∷◌, length, refl, sym, ap, subst, ◌∙◌, codes}
 use Rattle.std.specs.Prelude.{get_or}
 use Rattle.sm_http.specs.declared.message.Protocol.{Protocol}
-use Rattle.sm_asked_service.specs.ServiceWords.{AreBehindModels, protocol_word}
-use Rattle.sm_asked_service.proofs.BehindModels.{behind_same}
-use Rattle.sm_asked_service.proofs.ProtocolWords.{protocol_same}
-use Rattle.sm_gateway.specs.GatewayData.{IsHost}
+use Rattle.sm_asked_gateway.specs.asked_service.ServiceWords.{AreBehindModels, protocol_word}
+use Rattle.sm_asked_gateway.proofs.asked_service.BehindModels.{behind_same}
+use Rattle.sm_asked_gateway.proofs.asked_service.ProtocolWords.{protocol_same}
+use Rattle.sm_asked_gateway.specs.gateway.GatewayData.{IsHost}
 use Rattle.sm_cross_command.specs.CrossWords.{CrossAsked, IsCrossForm, words_behind}
 
 -- what stands behind the model files of these words

@@ -7,20 +7,20 @@ use Rattle.sm_io.specs.Seen.{FilesSeen}
 use Rattle.sm_shapes.specs.Fitting.{Test}
 use Rattle.sm_shapes.specs.InOrder.{AreStored}
 use Rattle.sm_compile.specs.Answers.{StoreSeen}
-use Rattle.sm_service.specs.ServiceData.{ServiceData}
-use Rattle.sm_service.specs.ServiceView.{service_data}
-use Rattle.sm_service.specs.declared.service.Service.{Service}
-use Rattle.sm_asked.specs.Answer.{Answer}
-use Rattle.sm_asked.specs.Stages.{FileTooLong, told}
-use Rattle.sm_asked.specs.declared.stop.CommandStop.{CommandStop}
-use Rattle.sm_asked.specs.steps.FileSteps.{PassesLimit}
-use Rattle.sm_asked.proofs.Answered.{none_is_some}
-use Rattle.sm_asked.proofs.Stops.{stops_map}
-use Rattle.sm_asked_service.specs.LoadsService.{CanBeServed, LoadsService, StandsBefore}
-use Rattle.sm_asked_service.specs.ServiceAnswers.{ServiceAnswers}
-use Rattle.sm_gateway.specs.GatewayData.{GatewayData, ServesBoth}
-use Rattle.sm_gateway.specs.GatewayView.{gateway_data}
-use Rattle.sm_rest.specs.Laws.{TargetTextsWhereJson}
+use Rattle.sm_asked_gateway.specs.service.ServiceData.{ServiceData}
+use Rattle.sm_asked_gateway.specs.service.ServiceView.{service_data}
+use Rattle.sm_asked_gateway.specs.service.declared.service.Service.{Service}
+use Rattle.sm_asked_ends.specs.asked.Answer.{Answer}
+use Rattle.sm_asked_ends.specs.asked.Stages.{FileTooLong, told}
+use Rattle.sm_asked_ends.specs.asked.declared.stop.CommandStop.{CommandStop}
+use Rattle.sm_asked_ends.specs.asked.steps.FileSteps.{PassesLimit}
+use Rattle.sm_asked_ends.proofs.asked.Answered.{none_is_some}
+use Rattle.sm_asked_ends.proofs.asked.Stops.{stops_map}
+use Rattle.sm_asked_gateway.specs.asked_service.LoadsService.{CanBeServed, LoadsService, StandsBefore}
+use Rattle.sm_asked_gateway.specs.asked_service.ServiceAnswers.{ServiceAnswers}
+use Rattle.sm_asked_gateway.specs.gateway.GatewayData.{GatewayData, ServesBoth}
+use Rattle.sm_asked_gateway.specs.gateway.GatewayView.{gateway_data}
+use Rattle.sm_asked_gateway.specs.rest.Laws.{TargetTextsWhereJson}
 use Rattle.sm_asked_gateway.proofs.LoadedServices.{loaded_serves}
 use Rattle.sm_cross_command.specs.Cross.{CrossAnswers}
 use Rattle.sm_cross_command.specs.Cross.CrossAnswers.{not_made, long_back}

@@ -2,11 +2,11 @@
 use Rattle.std.proofs.Common.{◌≡◌, ◌⊎◌, [], ◌∷◌, Some, inl, inr, ap, sym, subst, ◌∙◌, refl, arith}
 use Rattle.std.specs.Prelude.{Contains}
 use Rattle.std.proofs.lemmas.Option.{same_Some}
-use Rattle.sm_asked.specs.Answer.{Came, FileWritten}
-use Rattle.sm_asked.specs.Answer.InputUse.{untouched}
-use Rattle.sm_asked.specs.AskedLaws.{ReachesInput, WritesAsNamed}
-use Rattle.sm_asked.specs.Stages.{Told}
-use Rattle.sm_asked.proofs.Answered.{none_is_some}
+use Rattle.sm_asked_ends.specs.asked.Answer.{Came, FileWritten}
+use Rattle.sm_asked_ends.specs.asked.Answer.InputUse.{untouched}
+use Rattle.sm_asked_ends.specs.asked.AskedLaws.{ReachesInput, WritesAsNamed}
+use Rattle.sm_asked_ends.specs.asked.Stages.{Told}
+use Rattle.sm_asked_ends.proofs.asked.Answered.{none_is_some}
 use Rattle.sm_cross_command.specs.Cross.{CrossSays, cross_asked, requests_file}
 use Rattle.sm_cross_command.specs.Cross.CrossSays.{not_opened, session}
 use Rattle.sm_cross_command.specs.CrossStages.{CrossOpens}

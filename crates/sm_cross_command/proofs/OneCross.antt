@@ -2,24 +2,24 @@
 use Rattle.std.proofs.Common.{◌≡◌, ℕ, List, Some, refl, sym, ap, subst, ◌∙◌}
 use Rattle.sm_io.specs.Files.{Folder, Holds}
 use Rattle.sm_codec.specs.Defaults.{filled}
-use Rattle.sm_load.specs.Laws.{ReadyModels}
-use Rattle.sm_service.specs.Filled.{over_table}
-use Rattle.sm_service.specs.Laws.{OneService, StaysServable}
-use Rattle.sm_service.specs.ServiceData.{ServiceData}
+use Rattle.sm_asked_ends.specs.load.Laws.{ReadyModels}
+use Rattle.sm_asked_gateway.specs.service.Filled.{over_table}
+use Rattle.sm_asked_gateway.specs.service.Laws.{OneService, StaysServable}
+use Rattle.sm_asked_gateway.specs.service.ServiceData.{ServiceData}
 use Rattle.sm_session.specs.Sessions.{SessionSaid, turn_limit}
-use Rattle.sm_asked.specs.Answer.{Answer, Came, came, came_writing}
-use Rattle.sm_asked.specs.Answer.InputUse.{in_part, untouched}
-use Rattle.sm_asked.specs.AskedLaws.{ComesToOne, TellsAll}
-use Rattle.sm_asked.specs.Stages.{Told, FileRead, FileTooLong, IsInput}
-use Rattle.sm_asked.proofs.FilesRead.{bytes_same, not_long}
-use Rattle.sm_asked.proofs.ToldAll.{IsToldWhole, all_told}
-use Rattle.sm_asked_service.proofs.OneServiceAsked.{service_apart, service_same, services_same}
-use Rattle.sm_asked_service.proofs.ServicesMade.{served_with, service_ready}
-use Rattle.sm_gateway.specs.GatewayData.{GatewayData, ServesBoth}
-use Rattle.sm_gateway.specs.GatewayTurns.{Session}
-use Rattle.sm_gateway.specs.Laws.{OneSession}
-use Rattle.sm_rest.specs.Laws.{TargetTextsWhereJson}
-use Rattle.sm_asked_service.specs.ServiceStages.{service_of}
+use Rattle.sm_asked_ends.specs.asked.Answer.{Answer, Came, came, came_writing}
+use Rattle.sm_asked_ends.specs.asked.Answer.InputUse.{in_part, untouched}
+use Rattle.sm_asked_ends.specs.asked.AskedLaws.{ComesToOne, TellsAll}
+use Rattle.sm_asked_ends.specs.asked.Stages.{Told, FileRead, FileTooLong, IsInput}
+use Rattle.sm_asked_ends.proofs.asked.FilesRead.{bytes_same, not_long}
+use Rattle.sm_asked_ends.proofs.asked.ToldAll.{IsToldWhole, all_told}
+use Rattle.sm_asked_gateway.proofs.asked_service.OneServiceAsked.{service_apart, service_same, services_same}
+use Rattle.sm_asked_gateway.proofs.asked_service.ServicesMade.{served_with, service_ready}
+use Rattle.sm_asked_gateway.specs.gateway.GatewayData.{GatewayData, ServesBoth}
+use Rattle.sm_asked_gateway.specs.gateway.GatewayTurns.{Session}
+use Rattle.sm_asked_gateway.specs.gateway.Laws.{OneSession}
+use Rattle.sm_asked_gateway.specs.rest.Laws.{TargetTextsWhereJson}
+use Rattle.sm_asked_gateway.specs.asked_service.ServiceStages.{service_of}
 use Rattle.sm_asked_gateway.proofs.LoadedServices.{loaded_serves}
 use Rattle.sm_cross_command.specs.Cross.{CrossAnswers, CrossSays, cross_asked, requests_file, session_answer}
 use Rattle.sm_cross_command.specs.Cross.CrossAnswers.{not_made, long_back}

@@ -4,19 +4,19 @@ use Rattle.std.proofs.Common.{◌≡◌, ℕ, inl, inr, List, [], ◌∷◌, ◌
 use Rattle.std.proofs.lemmas.Bool.{cases_lt}
 use Rattle.std.proofs.lemmas.List.Elements.{Contains-append_left, Contains-append_right}
 use Rattle.sm_io.specs.Files.{Folder, Holds, file_at}
-use Rattle.sm_load.specs.Laws.{ReadyModels, SomeLoad}
-use Rattle.sm_service.specs.Laws.{SomeService, StaysServable}
+use Rattle.sm_asked_ends.specs.load.Laws.{ReadyModels, SomeLoad}
+use Rattle.sm_asked_gateway.specs.service.Laws.{SomeService, StaysServable}
 use Rattle.sm_session.specs.Sessions.{turn_limit}
-use Rattle.sm_asked.specs.Answer.{Came, came, came_writing, past}
-use Rattle.sm_asked.specs.Answer.InputUse.{in_part, untouched}
-use Rattle.sm_asked.specs.AskedLaws.{AreThere, ComesToSome, TellsAll}
-use Rattle.sm_asked.specs.Limits.{file_limit}
-use Rattle.sm_asked.specs.Lines.{file_limit_line}
-use Rattle.sm_asked.specs.Stages.{Told, IsInput}
-use Rattle.sm_asked_service.specs.ServiceStages.{ServiceMade}
-use Rattle.sm_asked_service.proofs.SomeServiceAsked.{service_answered}
-use Rattle.sm_gateway.specs.Laws.{SomeSession}
-use Rattle.sm_rest.specs.Laws.{TargetTextsWhereJson}
+use Rattle.sm_asked_ends.specs.asked.Answer.{Came, came, came_writing, past}
+use Rattle.sm_asked_ends.specs.asked.Answer.InputUse.{in_part, untouched}
+use Rattle.sm_asked_ends.specs.asked.AskedLaws.{AreThere, ComesToSome, TellsAll}
+use Rattle.sm_asked_ends.specs.asked.Limits.{file_limit}
+use Rattle.sm_asked_ends.specs.asked.Lines.{file_limit_line}
+use Rattle.sm_asked_ends.specs.asked.Stages.{Told, IsInput}
+use Rattle.sm_asked_gateway.specs.asked_service.ServiceStages.{ServiceMade}
+use Rattle.sm_asked_gateway.proofs.asked_service.SomeServiceAsked.{service_answered}
+use Rattle.sm_asked_gateway.specs.gateway.Laws.{SomeSession}
+use Rattle.sm_asked_gateway.specs.rest.Laws.{TargetTextsWhereJson}
 use Rattle.sm_cross_command.specs.Cross.{CrossSays, cross_asked, requests_file, session_answer}
 use Rattle.sm_cross_command.specs.Cross.CrossAnswers.{not_made, long_back}
 use Rattle.sm_cross_command.specs.Cross.CrossSays.{not_opened, session}

@@ -7,16 +7,16 @@ use Rattle.sm_session.specs.declared.session_end.SessionEnd.{SessionEnd}
 use Rattle.sm_session.specs.declared.session_end.SessionEnd.TheVariants.{Closed, Quota, FrontEnded, BackEnded, FrontFraming, BackFraming}
 use Rattle.sm_session.specs.declared.session_end.SessionEnd.TheVariants.{FrontRead, FrontWrite, BackRead, BackWrite}
 use Rattle.sm_session.specs.declared.session_end.SessionEnd.TheVariants.{NoMemory as out_of_memory}
-use Rattle.sm_asked.specs.Answer.{Answer, Came, FileWritten, came, came_writing, past}
-use Rattle.sm_asked.specs.Answer.InputUse.{in_part, untouched}
-use Rattle.sm_asked.specs.CommandAsked.{CommandAsked}
-use Rattle.sm_asked.specs.Lines.{file_limit_line}
-use Rattle.sm_asked.specs.Stages.{Told, FileTooLong, IsInput}
-use Rattle.sm_asked.specs.declared.status.Status.{Status}
-use Rattle.sm_asked.specs.declared.status.Status.TheVariants.{Done, Limit, NoMemory, ReadFault, Refused, WriteFault}
-use Rattle.sm_asked_service.specs.ServiceAnswers.{ServiceAnswers}
-use Rattle.sm_asked_service.specs.ServiceStages.{ServiceMade}
-use Rattle.sm_gateway.specs.GatewayTurns.{Session}
+use Rattle.sm_asked_ends.specs.asked.Answer.{Answer, Came, FileWritten, came, came_writing, past}
+use Rattle.sm_asked_ends.specs.asked.Answer.InputUse.{in_part, untouched}
+use Rattle.sm_asked_ends.specs.asked.CommandAsked.{CommandAsked}
+use Rattle.sm_asked_ends.specs.asked.Lines.{file_limit_line}
+use Rattle.sm_asked_ends.specs.asked.Stages.{Told, FileTooLong, IsInput}
+use Rattle.sm_asked_ends.specs.asked.declared.status.Status.{Status}
+use Rattle.sm_asked_ends.specs.asked.declared.status.Status.TheVariants.{Done, Limit, NoMemory, ReadFault, Refused, WriteFault}
+use Rattle.sm_asked_gateway.specs.asked_service.ServiceAnswers.{ServiceAnswers}
+use Rattle.sm_asked_gateway.specs.asked_service.ServiceStages.{ServiceMade}
+use Rattle.sm_asked_gateway.specs.gateway.GatewayTurns.{Session}
 use Rattle.sm_cross_command.specs.CrossStages.{CrossOpens, gateway_of}
 use Rattle.sm_cross_command.specs.CrossWords.{CrossAsked}
 

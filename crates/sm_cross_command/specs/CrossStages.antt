@@ -1,8 +1,8 @@
 -- How far the command `cross` has come behind a service of its model files, over bytes alone: the bytes of the back are read. Then a
 -- session may begin.
-use Rattle.sm_asked.specs.Stages.{Told, FileRead}
-use Rattle.sm_asked_service.specs.ServiceStages.{ServiceMade, service_of}
-use Rattle.sm_gateway.specs.GatewayData.{GatewayData}
+use Rattle.sm_asked_ends.specs.asked.Stages.{Told, FileRead}
+use Rattle.sm_asked_gateway.specs.asked_service.ServiceStages.{ServiceMade, service_of}
+use Rattle.sm_asked_gateway.specs.gateway.GatewayData.{GatewayData}
 use Rattle.sm_cross_command.specs.CrossWords.{CrossAsked}
 
 pub record CrossOpens (t : Told) (w : CrossAsked) : Type 0 where

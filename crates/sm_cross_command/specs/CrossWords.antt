@@ -1,8 +1,8 @@
 -- The form of the words of `cross`.
 use Rattle.std.specs.Prelude.{ℕ, List, [], ◌∷◌, codes}
 use Rattle.sm_http.specs.declared.message.Protocol.{Protocol}
-use Rattle.sm_asked_service.specs.ServiceWords.{AreBehindModels, protocol_word}
-use Rattle.sm_gateway.specs.GatewayData.{IsHost}
+use Rattle.sm_asked_gateway.specs.asked_service.ServiceWords.{AreBehindModels, protocol_word}
+use Rattle.sm_asked_gateway.specs.gateway.GatewayData.{IsHost}
 
 -- what the words ask for
 pub record CrossAsked : Type 0 where

@@ -5,26 +5,26 @@ ghost use Rattle.sm_io.specs.Reading.{LosesPrefix};
 ghost use Rattle.sm_io.specs.Seen.{files_seen, stream};
 ghost use Rattle.sm_shapes.specs.InOrder.{AreStored};
 ghost use Rattle.sm_compile.specs.Answers.{seen_store};
-ghost use Rattle.sm_service.specs.Servable.{Servable};
-ghost use Rattle.sm_service.specs.ServiceView.{service_data};
-ghost use Rattle.sm_asked.specs.CommandAsked.{OnlyAdds};
-ghost use Rattle.sm_asked.specs.Outside.{inputs_seen, outside};
-ghost use Rattle.sm_asked.specs.steps.FileSteps.{OpensFile};
+ghost use Rattle.sm_asked_gateway.specs.service.Servable.{Servable};
+ghost use Rattle.sm_asked_gateway.specs.service.ServiceView.{service_data};
+ghost use Rattle.sm_asked_ends.specs.asked.CommandAsked.{OnlyAdds};
+ghost use Rattle.sm_asked_ends.specs.asked.Outside.{inputs_seen, outside};
+ghost use Rattle.sm_asked_ends.specs.asked.steps.FileSteps.{OpensFile};
 ghost use Rattle.sm_asked_ends.specs.AskedEnds.{AskedEnds};
-ghost use Rattle.sm_gateway.specs.GatewayData.{IsHost, ServesBoth};
-ghost use Rattle.sm_gateway.specs.GatewayView.{KeepsBoth, gateway_data};
+ghost use Rattle.sm_asked_gateway.specs.gateway.GatewayData.{IsHost, ServesBoth};
+ghost use Rattle.sm_asked_gateway.specs.gateway.GatewayView.{KeepsBoth, gateway_data};
 ghost use Rattle.sm_cross_command.specs.Cross.{cross_asked};
 ghost use Rattle.sm_cross_command.specs.CrossView.{cross_said};
 ghost use Rattle.sm_cross_command.specs.steps.CrossSteps.{OpensCross, OpensService, RunsAndWrites};
 
 use crate::status::status_after;
 use crate::words::CrossWords;
-use sm_asked::{CommandStop, Status, limit_line, past};
 use sm_asked_ends::print_stop;
-use sm_asked_service::load_service;
-use sm_gateway::{Gateway, serve_session};
+use sm_asked_ends::sm_asked::{CommandStop, Status, limit_line, past};
+use sm_asked_gateway::sm_asked_service::load_service;
+use sm_asked_gateway::sm_gateway::{Gateway, serve_session};
+use sm_asked_gateway::sm_service::Service;
 use sm_io::{CalmSink, CalmSource, FileRefusal, Files, Sink, Source};
-use sm_service::Service;
 use sm_shapes::Patterns;
 use sm_tree::NoMemory;
 use std::alloc::Global;
@@ -115,7 +115,7 @@ fn open<F: Files, P: Patterns>(
     ensures same_writes { LetsSame (F.lets_write files.old) (F.lets_write files.new) }
     ensures added { OnlyAdds (P.added patterns.old) (P.added patterns.new) }
 {
-    sm_rest::laws::target_texts();
+    sm_asked_gateway::sm_rest::laws::target_texts();
     match load_service(alloc, files, words.models, words.service, patterns) {
         Ok(service) => open_service(alloc, words, service, files),
         Err(stop) => Err(stop),
@@ -206,8 +206,8 @@ pub fn cross<F: Files, S: Source, K: Sink, P: Patterns>(
     ensures output_faults { K.faults out.old ≤ K.faults out.new }
     ensures added { OnlyAdds (P.added patterns.old) (P.added patterns.new) }
 {
-    sm_service::laws::one_service();
-    sm_load::laws::sound_models();
+    sm_asked_gateway::sm_service::laws::one_service();
+    sm_asked_ends::sm_load::laws::sound_models();
     match open(alloc, words, files, patterns) {
         Ok(opened) => run_opened(alloc, opened, words.out_file, files, input, out, patterns),
         Err(stop) => print_stop(out, stop),

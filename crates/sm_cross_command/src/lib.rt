@@ -7,4 +7,5 @@ pub mod laws;
 mod status;
 mod words;
 
+pub use sm_asked_ends;
 pub use words::{CrossWords, cross_words};

@@ -3,7 +3,7 @@ ghost use Rattle.std.specs.Prelude.{◌≡◌};
 ghost use Rattle.sm_cross_command.specs.Cross.{end_status as the_end_status};
 ghost use Rattle.sm_cross_command.specs.steps.CrossSteps.{status_after as the_status_after};
 
-use sm_asked::Status;
+use sm_asked_ends::sm_asked::Status;
 use sm_io::FileRefusal;
 use sm_session::SessionEnd;
 

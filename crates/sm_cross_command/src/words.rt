@@ -4,7 +4,7 @@ ghost use Rattle.sm_cross_command.specs.CrossView.{cross_said};
 ghost use Rattle.sm_cross_command.specs.CrossWords.{CrossAsked, IsCrossForm};
 
 use sm_asked_gateway::is_host;
-use sm_asked_service::{models_before, protocol_named};
+use sm_asked_gateway::sm_asked_service::{models_before, protocol_named};
 use sm_http::Protocol;
 use sm_tree::Text;
 

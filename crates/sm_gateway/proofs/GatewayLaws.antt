@@ -6,18 +6,18 @@ use Rattle.sm_compile.specs.declared.compiled.Served.TheVariants.{Yes, Unserved}
 use Rattle.sm_http.specs.declared.message.Message.{Message}
 use Rattle.sm_http.specs.declared.message.MessageSide.TheVariants.{Request as of_requests, Response as of_responses}
 use Rattle.sm_http.specs.Laws.{HasOneFraming, HasSomeFraming}
-use Rattle.sm_service.specs.ServiceData.{ServiceData}
+use Rattle.sm_protocols.specs.service.ServiceData.{ServiceData}
 use Rattle.sm_session.specs.Laws.{HasOneAsked, HasOneReply, HasOneSession, HasSomeAsked, HasSomeReply, HasSomeSession}
 use Rattle.sm_session.specs.Turns.{Asked, answered, asks}
 use Rattle.sm_session.proofs.SessionsOnce.{one_session_said}
 use Rattle.sm_session.proofs.SessionsThere.{some_session_said}
 use Rattle.sm_session.proofs.TurnsOnce.{one_turn_said, some_turn_said}
-use Rattle.sm_messages.specs.Crossings.{Crossing, crosses, or_by, stays, towards}
-use Rattle.sm_messages.specs.Goals.{Goal, a_request, a_response, operation_at}
-use Rattle.sm_messages.specs.HeadAnswers.{path_unserved}
-use Rattle.sm_messages.specs.IsForm.{Serves, ServesOperation}
-use Rattle.sm_messages.specs.MessageForm.{MessageForm}
-use Rattle.sm_messages.proofs.CrossedMessages.{crosses_or_refused}
+use Rattle.sm_protocols.specs.messages.Crossings.{Crossing, crosses, or_by, stays, towards}
+use Rattle.sm_protocols.specs.messages.Goals.{Goal, a_request, a_response, operation_at}
+use Rattle.sm_protocols.specs.messages.HeadAnswers.{path_unserved}
+use Rattle.sm_protocols.specs.messages.IsForm.{Serves, ServesOperation}
+use Rattle.sm_protocols.specs.messages.MessageForm.{MessageForm}
+use Rattle.sm_protocols.proofs.messages.CrossedMessages.{crosses_or_refused}
 use Rattle.sm_gateway.specs.GatewayData.{GatewayData, ServesAtBoth, ServesBoth, back_form, front_form}
 use Rattle.sm_gateway.specs.GatewayTurns.{GatewayAsks, GatewayReplies, RequestCrosses, ResponseCrosses, asked_of, gateway_turn, replied_of}
 use Rattle.sm_gateway.specs.RefusalAnswers.{refusal_answer}

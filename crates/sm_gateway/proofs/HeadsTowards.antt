@@ -6,19 +6,19 @@ use Rattle.sm_shapes.specs.Fitting.{Test}
 use Rattle.sm_compile.specs.declared.compiled.Served.{Served}
 use Rattle.sm_compile.specs.declared.compiled.Served.TheVariants.{Yes, Unserved}
 use Rattle.sm_http.specs.declared.message.Head.{Head}
-use Rattle.sm_service.specs.ServiceData.{ServiceData}
-use Rattle.sm_messages.specs.Crossings.{or_by, towards}
-use Rattle.sm_messages.specs.Goals.{Asked, Goal, a_request, a_response, goal_of, operation_at, the_input}
-use Rattle.sm_messages.specs.HeadAnswers.{Address, HeadAnswer, HeadRefusal, IsJudged, addressed, not_served, of_request, of_response}
-use Rattle.sm_messages.specs.HeadAnswers.{is_request_type, path_unserved, refused_at_head, served_answer}
-use Rattle.sm_messages.specs.HeadAnswers.{to_goal, typed_answer, unmarked, unserved, wrong_media_type}
-use Rattle.sm_messages.specs.Heads.{is_empty}
-use Rattle.sm_messages.specs.IsForm.{ReadsMessages, Serves}
-use Rattle.sm_messages.specs.MessageAnswers.{MessageAnswer, MessageAnswers, Reaches, at_head, fault, no_name, no_text, value}
-use Rattle.sm_messages.specs.MessageForm.{MessageForm}
-use Rattle.sm_messages.specs.Begun.{operation_of}
-use Rattle.sm_messages.proofs.CrossedMessages.{far_led}
-use Rattle.sm_messages.proofs.HeadsJudged.{judged_address}
+use Rattle.sm_protocols.specs.service.ServiceData.{ServiceData}
+use Rattle.sm_protocols.specs.messages.Crossings.{or_by, towards}
+use Rattle.sm_protocols.specs.messages.Goals.{Asked, Goal, a_request, a_response, goal_of, operation_at, the_input}
+use Rattle.sm_protocols.specs.messages.HeadAnswers.{Address, HeadAnswer, HeadRefusal, IsJudged, addressed, not_served, of_request, of_response}
+use Rattle.sm_protocols.specs.messages.HeadAnswers.{is_request_type, path_unserved, refused_at_head, served_answer}
+use Rattle.sm_protocols.specs.messages.HeadAnswers.{to_goal, typed_answer, unmarked, unserved, wrong_media_type}
+use Rattle.sm_protocols.specs.messages.Heads.{is_empty}
+use Rattle.sm_protocols.specs.messages.IsForm.{ReadsMessages, Serves}
+use Rattle.sm_protocols.specs.messages.MessageAnswers.{MessageAnswer, MessageAnswers, Reaches, at_head, fault, no_name, no_text, value}
+use Rattle.sm_protocols.specs.messages.MessageForm.{MessageForm}
+use Rattle.sm_protocols.specs.messages.Begun.{operation_of}
+use Rattle.sm_protocols.proofs.messages.CrossedMessages.{far_led}
+use Rattle.sm_protocols.proofs.messages.HeadsJudged.{judged_address}
 use Rattle.sm_protocols.specs.ProtocolBodies.{IsHeadFor}
 use Rattle.sm_gateway.specs.steps.Reading.{IsAdmitted}
 

@@ -11,3 +11,4 @@ mod ValuesCarried
 mod MessagesCrossed
 mod MessagesRead
 mod SessionsAlike
+pub use Rattle.sm_protocols.proofs as protocols

@@ -7,14 +7,14 @@ use Rattle.sm_http.specs.declared.message.Head.{Head}
 use Rattle.sm_http.specs.declared.message.Message.{Message}
 use Rattle.sm_session.specs.Responding.{Begun}
 use Rattle.sm_session.specs.Responding.{is_empty as has_no_bytes}
-use Rattle.sm_messages.specs.Crossings.{or_by, towards}
-use Rattle.sm_messages.specs.Goals.{a_request, a_response}
-use Rattle.sm_messages.specs.HeadAnswers.{HeadRefusal, IsJudged, not_served, refused_at_head, wrong_media_type}
-use Rattle.sm_messages.specs.Heads.{is_empty}
-use Rattle.sm_messages.specs.MessageAnswers.{MessageAnswers, at_head, by_head, the_refusal}
-use Rattle.sm_messages.specs.Answers.{AtHead, RefusedAs}
-use Rattle.sm_messages.specs.declared.refusal.MessageRefusal.{MessageRefusal}
-use Rattle.sm_messages.specs.declared.refusal.MessageRefusal.TheVariants.{MediaType}
+use Rattle.sm_protocols.specs.messages.Crossings.{or_by, towards}
+use Rattle.sm_protocols.specs.messages.Goals.{a_request, a_response}
+use Rattle.sm_protocols.specs.messages.HeadAnswers.{HeadRefusal, IsJudged, not_served, refused_at_head, wrong_media_type}
+use Rattle.sm_protocols.specs.messages.Heads.{is_empty}
+use Rattle.sm_protocols.specs.messages.MessageAnswers.{MessageAnswers, at_head, by_head, the_refusal}
+use Rattle.sm_protocols.specs.messages.Answers.{AtHead, RefusedAs}
+use Rattle.sm_protocols.specs.messages.declared.refusal.MessageRefusal.{MessageRefusal}
+use Rattle.sm_protocols.specs.messages.declared.refusal.MessageRefusal.TheVariants.{MediaType}
 use Rattle.sm_protocols.specs.ProtocolBodies.{IsHeadFor, ProtocolBegun}
 use Rattle.sm_protocols.specs.declared.body.ProtocolBody.{ProtocolBody}
 use Rattle.sm_gateway.specs.Answers.{IsSaid}

@@ -5,18 +5,18 @@ use Rattle.sm_shapes.specs.Fitting.{Test}
 use Rattle.sm_shapes.specs.Values.{Val}
 use Rattle.sm_http.specs.declared.message.Head.{Head}
 use Rattle.sm_http.specs.declared.message.Message.{Message}
-use Rattle.sm_service.specs.ServiceData.{ServiceData}
+use Rattle.sm_protocols.specs.service.ServiceData.{ServiceData}
 use Rattle.sm_session.specs.Responding.{begun_for}
-use Rattle.sm_messages.specs.Answers.{AnswersResponse, AtHead, RefusedAs, reply_role, reply_val}
-use Rattle.sm_messages.specs.Crossings.{crosses, not_carried, refused, stays, towards}
-use Rattle.sm_messages.specs.Crossings.{written as written_across}
-use Rattle.sm_messages.specs.Goals.{Asked, Goal, a_response, goal_of, the_input}
-use Rattle.sm_messages.specs.HeadAnswers.{HeadRefusal, IsJudged, refused_at_head}
-use Rattle.sm_messages.specs.Heads.{is_empty}
-use Rattle.sm_messages.specs.MessageAnswers.{MessageAnswers, Refusal, at_head, the_refusal, the_value}
-use Rattle.sm_messages.specs.declared.refusal.MessageRefusal.{MessageRefusal}
-use Rattle.sm_messages.specs.declared.reply.Reply.{Reply}
-use Rattle.sm_messages.proofs.TreeAnswered.{refused_more, response_more}
+use Rattle.sm_protocols.specs.messages.Answers.{AnswersResponse, AtHead, RefusedAs, reply_role, reply_val}
+use Rattle.sm_protocols.specs.messages.Crossings.{crosses, not_carried, refused, stays, towards}
+use Rattle.sm_protocols.specs.messages.Crossings.{written as written_across}
+use Rattle.sm_protocols.specs.messages.Goals.{Asked, Goal, a_response, goal_of, the_input}
+use Rattle.sm_protocols.specs.messages.HeadAnswers.{HeadRefusal, IsJudged, refused_at_head}
+use Rattle.sm_protocols.specs.messages.Heads.{is_empty}
+use Rattle.sm_protocols.specs.messages.MessageAnswers.{MessageAnswers, Refusal, at_head, the_refusal, the_value}
+use Rattle.sm_protocols.specs.messages.declared.refusal.MessageRefusal.{MessageRefusal}
+use Rattle.sm_protocols.specs.messages.declared.reply.Reply.{Reply}
+use Rattle.sm_protocols.proofs.messages.TreeAnswered.{refused_more, response_more}
 use Rattle.sm_protocols.specs.ProtocolBodies.{ProtocolBegun}
 use Rattle.sm_protocols.specs.declared.body.ProtocolBody.{ProtocolBody}
 use Rattle.sm_protocols.specs.declared.spoken.Spoken.{Spoken}

@@ -14,15 +14,15 @@ use Rattle.sm_session.specs.Responding.{ComesTo, FinishesReply, FinishesRequest,
 use Rattle.sm_session.specs.Turns.{answered, asks}
 use Rattle.sm_session.specs.declared.responder.Turn.{Turn}
 use Rattle.sm_session.specs.declared.responder.Turn.TheVariants.{Answered, Asking}
-use Rattle.sm_messages.specs.Answers.{AnswersRequest, AnswersResponse, RefusedAs, reply_role, reply_val}
-use Rattle.sm_messages.specs.Crossings.{crosses, not_carried, refused, stays, towards}
-use Rattle.sm_messages.specs.Crossings.{written as written_across}
-use Rattle.sm_messages.specs.Goals.{Goal, a_request, a_response, goal_of, the_input}
-use Rattle.sm_messages.specs.MessageAnswers.{MessageAnswer, MessageAnswers, Refusal, by_fault, the_refusal, the_value}
-use Rattle.sm_messages.specs.Pieces.{HasAll, OfAll}
-use Rattle.sm_messages.specs.declared.refusal.MessageRefusal.{MessageRefusal}
-use Rattle.sm_messages.specs.declared.reply.Reply.{Reply as MessageReply}
-use Rattle.sm_messages.proofs.TreeAnswered.{refused_more, request_more}
+use Rattle.sm_protocols.specs.messages.Answers.{AnswersRequest, AnswersResponse, RefusedAs, reply_role, reply_val}
+use Rattle.sm_protocols.specs.messages.Crossings.{crosses, not_carried, refused, stays, towards}
+use Rattle.sm_protocols.specs.messages.Crossings.{written as written_across}
+use Rattle.sm_protocols.specs.messages.Goals.{Goal, a_request, a_response, goal_of, the_input}
+use Rattle.sm_protocols.specs.messages.MessageAnswers.{MessageAnswer, MessageAnswers, Refusal, by_fault, the_refusal, the_value}
+use Rattle.sm_protocols.specs.messages.Pieces.{HasAll, OfAll}
+use Rattle.sm_protocols.specs.messages.declared.refusal.MessageRefusal.{MessageRefusal}
+use Rattle.sm_protocols.specs.messages.declared.reply.Reply.{Reply as MessageReply}
+use Rattle.sm_protocols.proofs.messages.TreeAnswered.{refused_more, request_more}
 use Rattle.sm_protocols.specs.ProtocolBodies.{ProtocolBegun}
 use Rattle.sm_protocols.specs.declared.body.ProtocolBody.{ProtocolBody}
 use Rattle.sm_gateway.specs.Answers.{IsSaid}

@@ -5,10 +5,10 @@ use Rattle.std.proofs.lemmas.Result.{on_ok_weaker}
 use Rattle.sm_bytes.specs.declared.no_memory.NoMemory.{NoMemory}
 use Rattle.sm_shapes.specs.Fitting.{Test}
 use Rattle.sm_http.specs.declared.message.Head.{Head}
-use Rattle.sm_service.specs.ServiceData.{ServiceData}
+use Rattle.sm_protocols.specs.service.ServiceData.{ServiceData}
 use Rattle.sm_session.specs.Responding.{HasRead, ReadsOn}
-use Rattle.sm_messages.specs.Goals.{Asked, a_request, a_response}
-use Rattle.sm_messages.specs.declared.refusal.MessageRefusal.{MessageRefusal}
+use Rattle.sm_protocols.specs.messages.Goals.{Asked, a_request, a_response}
+use Rattle.sm_protocols.specs.messages.declared.refusal.MessageRefusal.{MessageRefusal}
 use Rattle.sm_protocols.specs.ProtocolBodies.{ProtocolBegun, SomeBegun}
 use Rattle.sm_protocols.specs.declared.body.ProtocolBody.{ProtocolBody}
 use Rattle.sm_protocols.specs.declared.spoken.Spoken.{Spoken}

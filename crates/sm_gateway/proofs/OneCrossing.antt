@@ -4,15 +4,15 @@ use Rattle.sm_tree.specs.declared.path.Step.{Step}
 use Rattle.sm_shapes.specs.Fitting.{Test}
 use Rattle.sm_shapes.specs.declared.fault.FaultKind.TheVariants.{NotCarried}
 use Rattle.sm_http.specs.declared.message.Head.{Head}
-use Rattle.sm_service.specs.ServiceData.{ServiceData}
-use Rattle.sm_messages.specs.Crossings.{Crossing, CrossesAs, crosses, not_carried, refused, stays, towards, written}
-use Rattle.sm_messages.specs.Goals.{Asked}
-use Rattle.sm_messages.specs.IsForm.{ReadsMessages}
-use Rattle.sm_messages.specs.MessageAnswers.{MessageAnswer, MessageAnswers, by_fault, the_refusal, the_value}
-use Rattle.sm_messages.specs.MessageForm.{MessageForm}
-use Rattle.sm_messages.proofs.CrossedMessages.{reads_towards}
-use Rattle.sm_messages.proofs.OneMessage.{one_message}
-use Rattle.sm_messages.proofs.SomeMessage.{some_message}
+use Rattle.sm_protocols.specs.service.ServiceData.{ServiceData}
+use Rattle.sm_protocols.specs.messages.Crossings.{Crossing, CrossesAs, crosses, not_carried, refused, stays, towards, written}
+use Rattle.sm_protocols.specs.messages.Goals.{Asked}
+use Rattle.sm_protocols.specs.messages.IsForm.{ReadsMessages}
+use Rattle.sm_protocols.specs.messages.MessageAnswers.{MessageAnswer, MessageAnswers, by_fault, the_refusal, the_value}
+use Rattle.sm_protocols.specs.messages.MessageForm.{MessageForm}
+use Rattle.sm_protocols.proofs.messages.CrossedMessages.{reads_towards}
+use Rattle.sm_protocols.proofs.messages.OneMessage.{one_message}
+use Rattle.sm_protocols.proofs.messages.SomeMessage.{some_message}
 use Rattle.sm_gateway.specs.Laws.{OneCrossing, SomeCrossing}
 
 -- a crossing, where these paths of its value aren't carried

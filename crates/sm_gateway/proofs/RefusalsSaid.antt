@@ -4,12 +4,12 @@ use Rattle.std.specs.Prelude.{Ok, true, false}
 use Rattle.std.proofs.lemmas.Option.{same_Some}
 use Rattle.sm_http.specs.declared.message.Message.{Message}
 use Rattle.sm_session.specs.OwnAnswers.{back_line, line_answer}
-use Rattle.sm_messages.specs.Answers.{AtHead, RefusedAs}
-use Rattle.sm_messages.specs.HeadAnswers.{HeadRefusal, wrong_media_type}
-use Rattle.sm_messages.specs.MessageAnswers.{Refusal, by_fault, by_head, by_syntax}
-use Rattle.sm_messages.specs.declared.refusal.MessageRefusal.{MessageRefusal}
-use Rattle.sm_messages.specs.declared.refusal.MessageRefusal.TheVariants.{Fault, MediaType, NoMemory, Protocol, Syntax, UnknownError}
-use Rattle.sm_messages.specs.declared.refusal.MessageRefusal.TheVariants.{UnknownOperation, Unserved}
+use Rattle.sm_protocols.specs.messages.Answers.{AtHead, RefusedAs}
+use Rattle.sm_protocols.specs.messages.HeadAnswers.{HeadRefusal, wrong_media_type}
+use Rattle.sm_protocols.specs.messages.MessageAnswers.{Refusal, by_fault, by_head, by_syntax}
+use Rattle.sm_protocols.specs.messages.declared.refusal.MessageRefusal.{MessageRefusal}
+use Rattle.sm_protocols.specs.messages.declared.refusal.MessageRefusal.TheVariants.{Fault, MediaType, NoMemory, Protocol, Syntax, UnknownError}
+use Rattle.sm_protocols.specs.messages.declared.refusal.MessageRefusal.TheVariants.{UnknownOperation, Unserved}
 use Rattle.sm_gateway.specs.Answers.{AnswersRefusal, IsSaid}
 use Rattle.sm_gateway.specs.RefusalAnswers.{back_refusal_answer, closing, refusal_answer, refusal_line, refusal_status}
 use Rattle.sm_gateway.specs.declared.body.GatewayBody.TheVariants.{Refused}

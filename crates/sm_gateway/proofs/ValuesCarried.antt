@@ -8,12 +8,12 @@ use Rattle.sm_shapes.specs.Values.{Val}
 use Rattle.sm_shapes.specs.declared.fault.FaultKind.TheVariants.{NotCarried}
 use Rattle.sm_codec.specs.Encoded.{first_path}
 use Rattle.sm_http.specs.declared.message.Message.{Message}
-use Rattle.sm_service.specs.ServiceData.{ServiceData}
-use Rattle.sm_messages.specs.Answers.{RefusedAs}
-use Rattle.sm_messages.specs.Goals.{Goal}
-use Rattle.sm_messages.specs.MessageAnswers.{Refusal, by_fault}
-use Rattle.sm_messages.specs.MessageForm.{MessageForm}
-use Rattle.sm_messages.specs.declared.refusal.MessageRefusal.{MessageRefusal}
+use Rattle.sm_protocols.specs.service.ServiceData.{ServiceData}
+use Rattle.sm_protocols.specs.messages.Answers.{RefusedAs}
+use Rattle.sm_protocols.specs.messages.Goals.{Goal}
+use Rattle.sm_protocols.specs.messages.MessageAnswers.{Refusal, by_fault}
+use Rattle.sm_protocols.specs.messages.MessageForm.{MessageForm}
+use Rattle.sm_protocols.specs.messages.declared.refusal.MessageRefusal.{MessageRefusal}
 use Rattle.sm_gateway.specs.Answers.{IsSaid}
 use Rattle.sm_gateway.specs.RefusalAnswers.{back_refusal_answer, refusal_answer}
 use Rattle.sm_gateway.specs.steps.Reading.{NotCarriedAs, TellsFor, WritesFor}

@@ -9,17 +9,17 @@ use Rattle.sm_shapes.specs.declared.fault.FaultKind.TheVariants.{NotCarried}
 use Rattle.sm_compile.specs.declared.compiled.Served.{Served}
 use Rattle.sm_compile.specs.declared.compiled.Served.TheVariants.{Yes, Unserved}
 use Rattle.sm_http.specs.declared.message.Message.{Message}
-use Rattle.sm_service.specs.ServiceData.{ServiceData}
-use Rattle.sm_messages.specs.Crossings.{crosses, or_by, stays, towards}
-use Rattle.sm_messages.specs.Goals.{Asked, Goal, operation_at}
-use Rattle.sm_messages.specs.HeadAnswers.{Address, path_unserved, to_goal, to_named_error}
-use Rattle.sm_messages.specs.Heads.{is_empty}
-use Rattle.sm_messages.specs.IsForm.{IsForm, ReadsMessages, Serves, ServesGoal, ServesOperation}
-use Rattle.sm_messages.specs.MessageAnswers.{MessageAnswer, MessageAnswers, Refusal, by_fault, the_refusal, the_value}
-use Rattle.sm_messages.specs.MessageForm.{BodyUse, Content, HasContent, MessageForm, a_tree, as_bytes, as_empty_object, as_text, naming}
-use Rattle.sm_messages.specs.MessageForm.{nothing, raw_bytes, unread}
-use Rattle.sm_messages.specs.Messages.{LeadsTo, Msg, ShortMsg}
-use Rattle.sm_messages.proofs.OneReplies.{one_reply}
+use Rattle.sm_protocols.specs.service.ServiceData.{ServiceData}
+use Rattle.sm_protocols.specs.messages.Crossings.{crosses, or_by, stays, towards}
+use Rattle.sm_protocols.specs.messages.Goals.{Asked, Goal, operation_at}
+use Rattle.sm_protocols.specs.messages.HeadAnswers.{Address, path_unserved, to_goal, to_named_error}
+use Rattle.sm_protocols.specs.messages.Heads.{is_empty}
+use Rattle.sm_protocols.specs.messages.IsForm.{IsForm, ReadsMessages, Serves, ServesGoal, ServesOperation}
+use Rattle.sm_protocols.specs.messages.MessageAnswers.{MessageAnswer, MessageAnswers, Refusal, by_fault, the_refusal, the_value}
+use Rattle.sm_protocols.specs.messages.MessageForm.{BodyUse, Content, HasContent, MessageForm, a_tree, as_bytes, as_empty_object, as_text, naming}
+use Rattle.sm_protocols.specs.messages.MessageForm.{nothing, raw_bytes, unread}
+use Rattle.sm_protocols.specs.messages.Messages.{LeadsTo, Msg, ShortMsg}
+use Rattle.sm_protocols.proofs.messages.OneReplies.{one_reply}
 use Rattle.sm_gateway.specs.Laws.{SpellsAlone, ValuesKept}
 use Rattle.sm_gateway.proofs.OneCrossing.{answer_of_crossing, crossing_of, unless_carried}
 use Rattle.sm_gateway.proofs.ValuesRead.{near_of, value_read}

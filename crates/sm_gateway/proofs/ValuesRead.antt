@@ -6,16 +6,16 @@ use Rattle.sm_shapes.specs.Places.{root_place}
 use Rattle.sm_shapes.specs.Values.{Val}
 use Rattle.sm_bodies.proofs.FitsAny.{fits_any}
 use Rattle.sm_http.specs.declared.message.Message.{Message}
-use Rattle.sm_service.specs.ServiceData.{ServiceData}
-use Rattle.sm_messages.specs.Crossings.{IsAsked, towards}
-use Rattle.sm_messages.specs.Goals.{Asked, Goal, goal_shape}
-use Rattle.sm_messages.specs.IsForm.{ReadsMessages, Serves, ServesGoal, ServesOperation}
-use Rattle.sm_messages.specs.Laws.{MayAsk}
-use Rattle.sm_messages.specs.MessageAnswers.{MessageAnswers, the_value}
-use Rattle.sm_messages.specs.MessageForm.{MessageForm}
-use Rattle.sm_messages.specs.Messages.{ShortMsg}
-use Rattle.sm_messages.proofs.CrossedMessages.{found, near_serves}
-use Rattle.sm_messages.proofs.OneReplies.{goal_of_head}
+use Rattle.sm_protocols.specs.service.ServiceData.{ServiceData}
+use Rattle.sm_protocols.specs.messages.Crossings.{IsAsked, towards}
+use Rattle.sm_protocols.specs.messages.Goals.{Asked, Goal, goal_shape}
+use Rattle.sm_protocols.specs.messages.IsForm.{ReadsMessages, Serves, ServesGoal, ServesOperation}
+use Rattle.sm_protocols.specs.messages.Laws.{MayAsk}
+use Rattle.sm_protocols.specs.messages.MessageAnswers.{MessageAnswers, the_value}
+use Rattle.sm_protocols.specs.messages.MessageForm.{MessageForm}
+use Rattle.sm_protocols.specs.messages.Messages.{ShortMsg}
+use Rattle.sm_protocols.proofs.messages.CrossedMessages.{found, near_serves}
+use Rattle.sm_protocols.proofs.messages.OneReplies.{goal_of_head}
 
 pub near_of : (near far : MessageForm) (s : ServiceData) (test : Test) → Serves (towards near far) s test → Serves near s test
 near_of near far s test serves = record { servable = serves.servable; asks = serves.asks.0; defaults = serves.defaults }

@@ -2,14 +2,14 @@
 use Rattle.std.specs.Prelude.{◌≡◌, ℕ, Bool, Option, None, Some, Result, Ok, Err}
 use Rattle.sm_shapes.specs.Fitting.{Test}
 use Rattle.sm_http.specs.declared.message.Message.{Message}
-use Rattle.sm_messages.specs.Answers.{RefusedAs}
-use Rattle.sm_messages.specs.Crossings.{crosses, stays}
-use Rattle.sm_messages.specs.Goals.{Goal, goal_of, the_input}
-use Rattle.sm_messages.specs.HeadAnswers.{not_served, unknown_error, unknown_operation, wrong_media_type, wrong_protocol}
-use Rattle.sm_messages.specs.MessageAnswers.{Refusal, by_fault, by_head, by_syntax}
-use Rattle.sm_messages.specs.declared.refusal.MessageRefusal.{MessageRefusal}
-use Rattle.sm_messages.specs.declared.refusal.MessageRefusal.TheVariants.{Fault, MediaType, NoMemory, Protocol, Syntax, UnknownError}
-use Rattle.sm_messages.specs.declared.refusal.MessageRefusal.TheVariants.{UnknownOperation, Unserved}
+use Rattle.sm_protocols.specs.messages.Answers.{RefusedAs}
+use Rattle.sm_protocols.specs.messages.Crossings.{crosses, stays}
+use Rattle.sm_protocols.specs.messages.Goals.{Goal, goal_of, the_input}
+use Rattle.sm_protocols.specs.messages.HeadAnswers.{not_served, unknown_error, unknown_operation, wrong_media_type, wrong_protocol}
+use Rattle.sm_protocols.specs.messages.MessageAnswers.{Refusal, by_fault, by_head, by_syntax}
+use Rattle.sm_protocols.specs.messages.declared.refusal.MessageRefusal.{MessageRefusal}
+use Rattle.sm_protocols.specs.messages.declared.refusal.MessageRefusal.TheVariants.{Fault, MediaType, NoMemory, Protocol, Syntax, UnknownError}
+use Rattle.sm_protocols.specs.messages.declared.refusal.MessageRefusal.TheVariants.{UnknownOperation, Unserved}
 use Rattle.sm_gateway.specs.GatewayData.{GatewayData}
 use Rattle.sm_gateway.specs.GatewayTurns.{RequestCrosses, ResponseCrosses}
 use Rattle.sm_gateway.specs.RefusalAnswers.{closing, refusal_answer}

@@ -3,10 +3,10 @@ use Rattle.std.specs.Prelude.{◌<◌, ◌&&◌, Bool, IsTrue, List, ℕ, length
 use Rattle.std.specs.List.{list_all}
 use Rattle.sm_shapes.specs.Fitting.{Test}
 use Rattle.sm_http.specs.declared.message.Protocol.{Protocol}
-use Rattle.sm_service.specs.ServiceData.{ServiceData}
-use Rattle.sm_messages.specs.Crossings.{towards}
-use Rattle.sm_messages.specs.IsForm.{Serves, ServesOperation}
-use Rattle.sm_messages.specs.MessageForm.{MessageForm}
+use Rattle.sm_protocols.specs.service.ServiceData.{ServiceData}
+use Rattle.sm_protocols.specs.messages.Crossings.{towards}
+use Rattle.sm_protocols.specs.messages.IsForm.{Serves, ServesOperation}
+use Rattle.sm_protocols.specs.messages.MessageForm.{MessageForm}
 use Rattle.sm_protocols.specs.Forms.{form_of}
 
 pub record GatewayData : Type 0 where

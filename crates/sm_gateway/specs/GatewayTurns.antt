@@ -7,8 +7,8 @@ use Rattle.sm_http.specs.declared.message.Message.{Message}
 use Rattle.sm_http.specs.Written.{written}
 use Rattle.sm_session.specs.Turns.{Asked, TurnBy, Turning, answered, asks}
 use Rattle.sm_session.specs.Sessions.{SessionSaid, TurnsFrom, turn_limit}
-use Rattle.sm_messages.specs.Crossings.{Crossing, CrossesAs, crosses, stays}
-use Rattle.sm_messages.specs.Goals.{Goal, a_request, a_response}
+use Rattle.sm_protocols.specs.messages.Crossings.{Crossing, CrossesAs, crosses, stays}
+use Rattle.sm_protocols.specs.messages.Goals.{Goal, a_request, a_response}
 use Rattle.sm_gateway.specs.GatewayData.{GatewayData, back_form, front_form}
 use Rattle.sm_gateway.specs.RefusalAnswers.{back_refusal_answer, refusal_answer}
 

@@ -1,5 +1,5 @@
 -- What a gateway is seen as, and that what it keeps for its protocols is of its service.
-use Rattle.sm_service.specs.ServiceView.{service_data}
+use Rattle.sm_protocols.specs.service.ServiceView.{service_data}
 use Rattle.sm_protocols.specs.Kept.{IsKeptOf, protocol_of}
 use Rattle.sm_gateway.specs.GatewayData.{GatewayData}
 use Rattle.sm_gateway.specs.declared.gateway.Gateway.{Gateway}

@@ -4,14 +4,14 @@ use Rattle.sm_shapes.specs.Fitting.{Test}
 use Rattle.sm_shapes.specs.Values.{Val}
 use Rattle.sm_http.specs.declared.message.Head.{Head}
 use Rattle.sm_http.specs.declared.message.Message.{Message}
-use Rattle.sm_service.specs.ServiceData.{ServiceData}
+use Rattle.sm_protocols.specs.service.ServiceData.{ServiceData}
 use Rattle.sm_session.specs.Laws.{HasOneSession, HasSomeSession}
-use Rattle.sm_messages.specs.Crossings.{Crossing, CrossesAs, crosses, towards}
-use Rattle.sm_messages.specs.Goals.{AreOfOne, Asked, Goal}
-use Rattle.sm_messages.specs.IsForm.{Serves}
-use Rattle.sm_messages.specs.Laws.{MayAsk}
-use Rattle.sm_messages.specs.MessageForm.{MessageForm}
-use Rattle.sm_messages.specs.Messages.{Msg, ShortMsg}
+use Rattle.sm_protocols.specs.messages.Crossings.{Crossing, CrossesAs, crosses, towards}
+use Rattle.sm_protocols.specs.messages.Goals.{AreOfOne, Asked, Goal}
+use Rattle.sm_protocols.specs.messages.IsForm.{Serves}
+use Rattle.sm_protocols.specs.messages.Laws.{MayAsk}
+use Rattle.sm_protocols.specs.messages.MessageForm.{MessageForm}
+use Rattle.sm_protocols.specs.messages.Messages.{Msg, ShortMsg}
 use Rattle.sm_gateway.specs.GatewayData.{GatewayData, ServesBoth}
 use Rattle.sm_gateway.specs.GatewayTurns.{gateway_turn}
 

@@ -5,3 +5,4 @@ pub mod Answers
 pub mod Laws
 pub mod GatewayView
 pub mod steps
+pub use Rattle.sm_protocols.specs.rest

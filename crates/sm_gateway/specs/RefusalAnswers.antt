@@ -6,8 +6,8 @@ use Rattle.sm_http.specs.Connections.{with_close}
 use Rattle.sm_http.specs.declared.message.Message.{Message}
 use Rattle.sm_lines.specs.Lines.{fault_line, syntax_line, unserved_line}
 use Rattle.sm_session.specs.OwnAnswers.{back_line, line_answer}
-use Rattle.sm_messages.specs.HeadAnswers.{HeadRefusal, not_served, unknown_error, unknown_operation, wrong_media_type, wrong_protocol}
-use Rattle.sm_messages.specs.MessageAnswers.{Refusal, by_fault, by_head, by_syntax}
+use Rattle.sm_protocols.specs.messages.HeadAnswers.{HeadRefusal, not_served, unknown_error, unknown_operation, wrong_media_type, wrong_protocol}
+use Rattle.sm_protocols.specs.messages.MessageAnswers.{Refusal, by_fault, by_head, by_syntax}
 
 abbrev pub word_line : List ℕ → List ℕ
 word_line word = word ++ line_feed ∷ []

@@ -2,8 +2,8 @@
 ghost use Rattle.std.specs.Prelude.{◌≡◌, IfOk};
 ghost use Rattle.sm_http.specs.Connections.{with_close as the_closing};
 ghost use Rattle.sm_session.specs.OwnAnswers.{framing_answer as the_framing_answer};
-ghost use Rattle.sm_messages.specs.Answers.{RefusedAs};
-ghost use Rattle.sm_messages.specs.MessageAnswers.{Refusal};
+ghost use Rattle.sm_protocols.specs.messages.Answers.{RefusedAs};
+ghost use Rattle.sm_protocols.specs.messages.MessageAnswers.{Refusal};
 ghost use Rattle.sm_gateway.specs.RefusalAnswers.{back_refusal_answer, closing as closes_so, refusal_answer, refusal_line, refusal_status};
 ghost use Rattle.sm_gateway.specs.RefusalAnswers.{word_line as the_word_line};
 ghost use Rattle.sm_gateway.specs.Answers.{AnswersRefusal, IsSaid};
@@ -11,7 +11,7 @@ ghost use Rattle.sm_gateway.specs.steps.Telling.{ToldAs};
 
 use sm_http::{HttpRefusal, Message, with_close};
 use sm_lines::{fault_line, syntax_line, unserved_line};
-use sm_messages::MessageRefusal;
+use sm_protocols::sm_messages::MessageRefusal;
 use sm_session::{back_line, framing_answer, line_answer};
 use sm_tree::NoMemory;
 use std::alloc::Global;

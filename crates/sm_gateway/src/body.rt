@@ -1,6 +1,6 @@
 // What a gateway holds of a message while its pieces come.
-use sm_messages::MessageRefusal;
 use sm_protocols::ProtocolBody;
+use sm_protocols::sm_messages::MessageRefusal;
 
 /// A message that is read.
 #[derive(Drop)]

@@ -1,13 +1,13 @@
 // A gateway between two protocols of one service.
 ghost use Rattle.std.specs.Prelude.{◌≡◌, ◌<◌, ℕ, Some, length, slice_get};
 ghost use Rattle.std.proofs.Props.{props};
-ghost use Rattle.sm_service.specs.ServiceView.{service_data};
-ghost use Rattle.sm_messages.specs.Crossings.{or_by};
+ghost use Rattle.sm_protocols.specs.service.ServiceView.{service_data};
+ghost use Rattle.sm_protocols.specs.messages.Crossings.{or_by};
 ghost use Rattle.sm_protocols.specs.Forms.{form_of};
 ghost use Rattle.sm_protocols.specs.Kept.{protocol_of};
 
 use sm_protocols::Spoken;
-use sm_service::Service;
+use sm_protocols::sm_service::Service;
 use sm_tree::Text;
 
 /// A gateway: requests in the protocol of its front go to its back in another.

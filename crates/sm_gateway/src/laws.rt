@@ -1,7 +1,7 @@
 // What holds of crossings and of sessions, over the definitions alone. These calls do nothing.
 ghost use Rattle.sm_http.specs.declared.message.Protocol.{Protocol};
-ghost use Rattle.sm_messages.specs.Crossings.{CrossesOrRefused};
-ghost use Rattle.sm_messages.specs.IsForm.{IsForm};
+ghost use Rattle.sm_protocols.specs.messages.Crossings.{CrossesOrRefused};
+ghost use Rattle.sm_protocols.specs.messages.IsForm.{IsForm};
 ghost use Rattle.sm_protocols.specs.Forms.{form_of};
 ghost use Rattle.sm_gateway.specs.Laws.{OneCrossing, OneSession, SomeCrossing, SomeSession, ValuesKept};
 

@@ -17,3 +17,4 @@ pub use answers::{answer_of, answer_of_framing};
 pub use crossed::Crossed;
 pub use gateway::Gateway;
 pub use serving::serve_session;
+pub use sm_protocols::sm_rest;

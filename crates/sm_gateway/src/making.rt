@@ -1,8 +1,8 @@
 // A gateway is made: what its protocols don't serve is found once.
 ghost use Rattle.std.specs.Prelude.{◌≡◌, ◌<◌, ℕ, IfOk, Some, length, slice_get};
-ghost use Rattle.sm_service.specs.Servable.{Servable};
-ghost use Rattle.sm_service.specs.ServiceView.{service_data};
-ghost use Rattle.sm_messages.specs.Crossings.{or_by};
+ghost use Rattle.sm_protocols.specs.service.Servable.{Servable};
+ghost use Rattle.sm_protocols.specs.service.ServiceView.{service_data};
+ghost use Rattle.sm_protocols.specs.messages.Crossings.{or_by};
 ghost use Rattle.sm_protocols.specs.Forms.{form_of};
 ghost use Rattle.sm_protocols.specs.Kept.{protocol_of};
 ghost use Rattle.sm_gateway.specs.GatewayData.{GatewayData, IsHost};
@@ -10,8 +10,8 @@ ghost use Rattle.sm_gateway.specs.GatewayView.{KeepsBoth, gateway_data};
 
 use crate::gateway::Gateway;
 use sm_http::Protocol;
+use sm_protocols::sm_service::Service;
 use sm_protocols::{Spoken, restriction};
-use sm_service::Service;
 use sm_tree::{NoMemory, Text};
 use std::alloc::Global;
 

@@ -13,3 +13,4 @@ pub mod WrittenTexts
 pub mod Homes
 pub mod TreeAnswered
 pub mod BodiesBegun
+pub use Rattle.sm_service.proofs as service

@@ -17,3 +17,4 @@ pub mod TreeForms
 pub mod TreeAnswers
 pub mod Begun
 pub mod Pieces
+pub use Rattle.sm_service.specs as service

@@ -29,6 +29,7 @@ pub use objects::named_body;
 pub use pieces::{fed_value, fed_with, message_begun, message_with};
 pub use refusal::MessageRefusal;
 pub use reply::Reply;
+pub use sm_service;
 pub use values::{body_refused, syntax_refused, whole_reply, whole_request, whole_value};
 pub use written::{
     fault_status, request_fields, request_with, response_fields, response_with, written_field,

@@ -3,8 +3,8 @@ use Rattle.std.proofs.Common.{◌≡◌, ℕ, List, Result, Ok, Err, subst}
 use Rattle.std.specs.Global.{Vec}
 use Rattle.sm_io.specs.Causes.{Rose}
 use Rattle.sm_io.specs.Seen.{FilesSeen}
-use Rattle.sm_load.specs.Events.{AreModelEvents}
-use Rattle.sm_load.specs.declared.model.Model.{Model}
+use Rattle.sm_asked.specs.load.Events.{AreModelEvents}
+use Rattle.sm_asked.specs.load.declared.model.Model.{Model}
 use Rattle.sm_asked.specs.Answer.{done}
 use Rattle.sm_model_commands.specs.Check.{CheckSays, Checks}
 use Rattle.sm_model_commands.specs.Check.CheckSays.{not_loaded, checked}

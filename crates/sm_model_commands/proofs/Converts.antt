@@ -4,7 +4,7 @@ use Rattle.std.specs.Global.{Vec}
 use Rattle.sm_io.specs.Causes.{Rose}
 use Rattle.sm_io.specs.Seen.{FilesSeen}
 use Rattle.sm_model.specs.GraphView.{maps_of}
-use Rattle.sm_load.specs.declared.model.Model.{Model}
+use Rattle.sm_asked.specs.load.declared.model.Model.{Model}
 use Rattle.sm_asked.specs.Answer.{done}
 use Rattle.sm_model_commands.specs.Forms.{GraphForm}
 use Rattle.sm_model_commands.specs.Convert.{ConvertSays, converted, Converts}

@@ -7,3 +7,4 @@ pub mod OneSelect
 pub mod Checks
 pub mod Converts
 pub mod Selects
+pub use Rattle.sm_asked.proofs as asked

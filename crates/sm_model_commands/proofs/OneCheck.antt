@@ -1,9 +1,9 @@
 -- Model files come to one answer of the command `check`, and to some.
 use Rattle.std.proofs.Common.{◌≡◌, ℕ, List, Some, ap, subst, sym, refl, ◌∙◌}
 use Rattle.sm_io.specs.Files.{Folder}
-use Rattle.sm_load.specs.Events.{AreModelEvents}
-use Rattle.sm_load.proofs.OneModelLoaded.{one_event_list}
-use Rattle.sm_load.specs.Laws.{SomeLoad, SomeModelEvents}
+use Rattle.sm_asked.specs.load.Events.{AreModelEvents}
+use Rattle.sm_asked.proofs.load.OneModelLoaded.{one_event_list}
+use Rattle.sm_asked.specs.load.Laws.{SomeLoad, SomeModelEvents}
 use Rattle.sm_asked.specs.Answer.{Answer, done}
 use Rattle.sm_model_commands.specs.Check.{CheckSays}
 use Rattle.sm_model_commands.specs.Check.CheckSays.{not_loaded, checked}

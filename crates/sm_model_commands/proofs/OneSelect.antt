@@ -6,7 +6,7 @@ use Rattle.sm_select.specs.Answers.{ArePicked}
 use Rattle.sm_select.proofs.OneAnswer.{one_answer, one_selector}
 use Rattle.sm_select.proofs.SomeAnswer.{some_answer}
 use Rattle.sm_select.proofs.SomePicked.{one_picked, some_picked}
-use Rattle.sm_load.specs.Laws.{SomeLoad}
+use Rattle.sm_asked.specs.load.Laws.{SomeLoad}
 use Rattle.sm_asked.specs.Answer.{Answer, done, refused}
 use Rattle.sm_model_commands.specs.SelectLines.{broken_selector_line, id_lines, other_selector_line}
 use Rattle.sm_asked.specs.AskedLaws.{AreThere}

@@ -7,7 +7,7 @@ use Rattle.sm_io.specs.Causes.{Rose}
 use Rattle.sm_io.specs.Seen.{FilesSeen}
 use Rattle.sm_model.specs.Graphs.{GraphMaps}
 use Rattle.sm_model.specs.GraphView.{maps_of}
-use Rattle.sm_load.specs.declared.model.Model.{Model}
+use Rattle.sm_asked.specs.load.declared.model.Model.{Model}
 use Rattle.sm_select.specs.Answers.{ArePicked, ParsesSelector}
 use Rattle.sm_select.specs.Selectors.{Steps, steps_of}
 use Rattle.sm_select.specs.View.{selector_view}

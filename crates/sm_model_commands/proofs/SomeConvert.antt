@@ -1,7 +1,7 @@
 -- Files that are there come to some answer of the command `convert`.
 use Rattle.std.proofs.Common.{ℕ, List, Some, refl}
 use Rattle.sm_io.specs.Files.{Folder}
-use Rattle.sm_load.specs.Laws.{SomeLoad}
+use Rattle.sm_asked.specs.load.Laws.{SomeLoad}
 use Rattle.sm_asked.specs.Answer.{Answer, done}
 use Rattle.sm_model_commands.specs.Forms.{GraphForm}
 use Rattle.sm_model_commands.specs.Convert.{ConvertSays, converted}

@@ -5,7 +5,7 @@ use Rattle.std.specs.Global.{Vec}
 use Rattle.sm_io.specs.Files.{Folder}
 use Rattle.sm_io.specs.Seen.{FilesSeen}
 use Rattle.sm_model.specs.declared.event.ModelEvent.{ModelEvent}
-use Rattle.sm_load.specs.Events.{AreModelEvents}
+use Rattle.sm_asked.specs.load.Events.{AreModelEvents}
 use Rattle.sm_asked.specs.Answer.{Answer, done}
 use Rattle.sm_asked.specs.CommandAsked.{CommandAsked, over_files}
 use Rattle.sm_asked.specs.Comes.{FilesComeTo}

@@ -6,9 +6,9 @@ ghost use Rattle.sm_model_commands.specs.Check.{Checks};
 ghost use Rattle.sm_model_commands.specs.steps.CheckSteps.{TellsEvents};
 
 use crate::words::CheckWords;
+use sm_asked::sm_load::Model;
 use sm_asked::{CommandStop, Shown, event_lines, load_models};
 use sm_io::Files;
-use sm_load::Model;
 use sm_tree::NoMemory;
 use std::alloc::Global;
 

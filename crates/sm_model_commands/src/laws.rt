@@ -19,5 +19,5 @@ pub fn some_answer()
     ensures convert { (models : List (List ℕ)) (form : GraphForm) → ComesToSome (convert_asked models form) }
     ensures select { (models : List (List ℕ)) (selector : List ℕ) → ComesToSome (select_asked models selector) }
 {
-    sm_load::laws::some_load();
+    sm_asked::sm_load::laws::some_load();
 }

@@ -8,6 +8,7 @@ mod lines;
 pub mod select;
 mod words;
 
+pub use sm_asked;
 pub use words::{
     CheckWords, ConvertForm, ConvertWords, SelectWords, check_words, convert_words, select_words,
 };

@@ -7,18 +7,18 @@ use Rattle.sm_shapes.specs.Fitting.{Test, any_text}
 use Rattle.sm_codec.specs.Convention.{Convention}
 use Rattle.sm_codec.specs.Conventions.{cbor_convention}
 use Rattle.sm_http.specs.declared.message.Head.{Head}
-use Rattle.sm_service.specs.ServiceData.{ServiceData}
-use Rattle.sm_messages.specs.Begun.{BegunFor, BodyState, failed, fed, held}
-use Rattle.sm_messages.specs.Goals.{Asked, a_request, goal_of}
-use Rattle.sm_messages.specs.HeadAnswers.{to_goal}
-use Rattle.sm_messages.specs.MessageForm.{MessageForm}
-use Rattle.sm_messages.specs.Pieces.{IsLive, number_in}
+use Rattle.sm_awsjson.specs.service.ServiceData.{ServiceData}
+use Rattle.sm_awsjson.specs.messages.Begun.{BegunFor, BodyState, failed, fed, held}
+use Rattle.sm_awsjson.specs.messages.Goals.{Asked, a_request, goal_of}
+use Rattle.sm_awsjson.specs.messages.HeadAnswers.{to_goal}
+use Rattle.sm_awsjson.specs.messages.MessageForm.{MessageForm}
+use Rattle.sm_awsjson.specs.messages.Pieces.{IsLive, number_in}
 use Rattle.sm_awsjson.specs.Begun.{AwsBegun, aws_state}
 use Rattle.sm_awsjson.specs.Messages.{aws_convention, aws_form}
 use Rattle.sm_awsjson.specs.declared.body.AwsBody.{AwsBody}
 use Rattle.sm_awsjson.specs.declared.version.AwsVersion.{AwsVersion}
-use Rattle.sm_rest.specs.RestForm.{rest_form}
-use Rattle.sm_rest.specs.declared.context.Rest.{Rest}
+use Rattle.sm_rest_laws.specs.rest.RestForm.{rest_form}
+use Rattle.sm_rest_laws.specs.rest.declared.context.Rest.{Rest}
 use Rattle.sm_rest_read.specs.Begun.{RestBegun, rest_state}
 use Rattle.sm_rest_read.specs.declared.body.RestBody.{RestBody}
 use Rattle.sm_rest_read.proofs.RestBodies.{rest_judged}

@@ -2,15 +2,15 @@
 use Rattle.std.proofs.Common.{◌≡◌, ℕ, List, Option, None, subst}
 use Rattle.sm_compile.specs.declared.compiled.Served.{Served}
 use Rattle.sm_compile.specs.declared.compiled.Served.TheVariants.{Yes, Unserved}
-use Rattle.sm_service.specs.ServiceData.{ServiceData}
-use Rattle.sm_messages.specs.Goals.{operation_at}
-use Rattle.sm_messages.specs.HeadAnswers.{path_unserved}
-use Rattle.sm_messages.specs.IsForm.{ServesOperation}
-use Rattle.sm_messages.specs.MessageForm.{MessageForm}
-use Rattle.sm_rest.specs.RestForm.{rest_form}
-use Rattle.sm_rest.specs.RestOf.{IsRestOf}
-use Rattle.sm_rest.specs.RestServable.{RestServable}
-use Rattle.sm_rest.specs.declared.context.Rest.{Rest}
+use Rattle.sm_awsjson.specs.service.ServiceData.{ServiceData}
+use Rattle.sm_awsjson.specs.messages.Goals.{operation_at}
+use Rattle.sm_awsjson.specs.messages.HeadAnswers.{path_unserved}
+use Rattle.sm_awsjson.specs.messages.IsForm.{ServesOperation}
+use Rattle.sm_awsjson.specs.messages.MessageForm.{MessageForm}
+use Rattle.sm_rest_laws.specs.rest.RestForm.{rest_form}
+use Rattle.sm_rest_laws.specs.rest.RestOf.{IsRestOf}
+use Rattle.sm_rest_laws.specs.rest.RestServable.{RestServable}
+use Rattle.sm_rest_laws.specs.rest.declared.context.Rest.{Rest}
 use Rattle.sm_protocols.specs.Forms.{form_of}
 use Rattle.sm_protocols.specs.Kept.{IsKeptOf, protocol_of}
 use Rattle.sm_protocols.specs.declared.spoken.Spoken.{Spoken}

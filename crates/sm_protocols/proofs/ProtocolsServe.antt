@@ -1,8 +1,8 @@
 -- A service of which restJson1 has all that it asks is served by each protocol.
 use Rattle.sm_http.specs.declared.message.Protocol.{Protocol}
 use Rattle.sm_http.specs.declared.message.Protocol.TheVariants.{AwsJson10, AwsJson11, RestJson1, RpcV2Cbor}
-use Rattle.sm_service.specs.ServiceData.{ServiceData}
-use Rattle.sm_rest.specs.RestServable.{RestServable}
+use Rattle.sm_awsjson.specs.service.ServiceData.{ServiceData}
+use Rattle.sm_rest_laws.specs.rest.RestServable.{RestServable}
 use Rattle.sm_protocols.specs.Forms.{form_of}
 
 pub each_serves : (p : Protocol) (s : ServiceData) → RestServable s → (form_of p).serves s

@@ -7,20 +7,20 @@ use Rattle.sm_shapes.specs.Fitting.{Test}
 use Rattle.sm_shapes.specs.declared.values.Value.{Value}
 use Rattle.sm_codec.specs.Conventions.{cbor_convention}
 use Rattle.sm_http.specs.declared.message.Head.{Head}
-use Rattle.sm_service.specs.ServiceData.{ServiceData}
-use Rattle.sm_messages.specs.Answers.{AnswersRequest, AnswersResponse}
-use Rattle.sm_messages.specs.Goals.{Asked, a_request, a_response}
-use Rattle.sm_messages.specs.MessageAnswers.{MessageAnswers}
-use Rattle.sm_messages.specs.Pieces.{HasAll, MayTake, OfAll}
-use Rattle.sm_messages.specs.TreeBodies.{tree_codec}
-use Rattle.sm_messages.specs.declared.refusal.MessageRefusal.{MessageRefusal}
-use Rattle.sm_messages.specs.declared.reply.Reply.{Reply}
+use Rattle.sm_awsjson.specs.service.ServiceData.{ServiceData}
+use Rattle.sm_awsjson.specs.messages.Answers.{AnswersRequest, AnswersResponse}
+use Rattle.sm_awsjson.specs.messages.Goals.{Asked, a_request, a_response}
+use Rattle.sm_awsjson.specs.messages.MessageAnswers.{MessageAnswers}
+use Rattle.sm_awsjson.specs.messages.Pieces.{HasAll, MayTake, OfAll}
+use Rattle.sm_awsjson.specs.messages.TreeBodies.{tree_codec}
+use Rattle.sm_awsjson.specs.messages.declared.refusal.MessageRefusal.{MessageRefusal}
+use Rattle.sm_awsjson.specs.messages.declared.reply.Reply.{Reply}
 use Rattle.sm_awsjson.specs.Begun.{aws_state}
 use Rattle.sm_awsjson.specs.Messages.{aws_convention}
 use Rattle.sm_awsjson.specs.declared.body.AwsBody.{AwsBody}
 use Rattle.sm_awsjson.specs.declared.version.AwsVersion.TheVariants.{V10, V11}
 use Rattle.sm_awsjson.proofs.AwsBodies.{aws_takes}
-use Rattle.sm_rest.specs.declared.context.Rest.{Rest}
+use Rattle.sm_rest_laws.specs.rest.declared.context.Rest.{Rest}
 use Rattle.sm_rest_read.specs.Begun.{rest_codec, rest_state}
 use Rattle.sm_rest_read.specs.declared.body.RestBody.{RestBody}
 use Rattle.sm_rest_read.proofs.RestBodies.{rest_takes}

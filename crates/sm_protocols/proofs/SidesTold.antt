@@ -8,13 +8,13 @@ use Rattle.sm_shapes.specs.Values.{Val}
 use Rattle.sm_codec.specs.Encoded.{first_path}
 use Rattle.sm_http.specs.declared.message.MessageSide.{MessageSide}
 use Rattle.sm_http.specs.declared.message.MessageSide.TheVariants.{Request, Response}
-use Rattle.sm_service.specs.ServiceData.{ServiceData}
-use Rattle.sm_messages.specs.Answers.{reply_role, reply_val}
-use Rattle.sm_messages.specs.Carrying.{IsValueOf, TellsCarried, TellsFirst}
-use Rattle.sm_messages.specs.Goals.{Goal, HasGoal, Role, goal_of, is_input, the_input}
-use Rattle.sm_messages.specs.TreeBodies.{goal_place}
-use Rattle.sm_messages.specs.declared.reply.Reply.{Reply}
-use Rattle.sm_messages.specs.declared.reply.Reply.TheVariants.{Error, Output}
+use Rattle.sm_awsjson.specs.service.ServiceData.{ServiceData}
+use Rattle.sm_awsjson.specs.messages.Answers.{reply_role, reply_val}
+use Rattle.sm_awsjson.specs.messages.Carrying.{IsValueOf, TellsCarried, TellsFirst}
+use Rattle.sm_awsjson.specs.messages.Goals.{Goal, HasGoal, Role, goal_of, is_input, the_input}
+use Rattle.sm_awsjson.specs.messages.TreeBodies.{goal_place}
+use Rattle.sm_awsjson.specs.messages.declared.reply.Reply.{Reply}
+use Rattle.sm_awsjson.specs.messages.declared.reply.Reply.TheVariants.{Error, Output}
 
 -- where it is carried there is no path
 pub none_told : (uncarried : Goal → Val → List (List Step)) (s : ServiceData) (o : ℕ) (side : MessageSide) (v : Val)

@@ -2,8 +2,8 @@
 use Rattle.std.specs.Prelude.{◌≡◌}
 use Rattle.sm_http.specs.declared.message.Protocol.{Protocol}
 use Rattle.sm_http.specs.declared.message.Protocol.TheVariants as protocol
-use Rattle.sm_service.specs.ServiceData.{ServiceData}
-use Rattle.sm_rest.specs.RestOf.{IsRestOf}
+use Rattle.sm_awsjson.specs.service.ServiceData.{ServiceData}
+use Rattle.sm_rest_laws.specs.rest.RestOf.{IsRestOf}
 use Rattle.sm_protocols.specs.declared.spoken.Spoken.{Spoken}
 use Rattle.sm_protocols.specs.declared.spoken.Spoken.TheVariants.{AwsJson10, AwsJson11, RestJson1, RpcV2Cbor}
 

@@ -2,13 +2,13 @@
 use Rattle.std.specs.Prelude.{◌≡◌, ℕ, Bool, List, [], Result, Ok, Err}
 use Rattle.sm_shapes.specs.Fitting.{Test}
 use Rattle.sm_http.specs.declared.message.Head.{Head}
-use Rattle.sm_service.specs.ServiceData.{ServiceData}
-use Rattle.sm_messages.specs.Answers.{AtHead, RefusedAs}
-use Rattle.sm_messages.specs.Begun.{operation_of}
-use Rattle.sm_messages.specs.Goals.{Asked, a_request, a_response}
-use Rattle.sm_messages.specs.HeadAnswers.{Address, IsJudged, addressed, refused_at_head}
-use Rattle.sm_messages.specs.MessageForm.{MessageForm}
-use Rattle.sm_messages.specs.declared.refusal.MessageRefusal.{MessageRefusal}
+use Rattle.sm_awsjson.specs.service.ServiceData.{ServiceData}
+use Rattle.sm_awsjson.specs.messages.Answers.{AtHead, RefusedAs}
+use Rattle.sm_awsjson.specs.messages.Begun.{operation_of}
+use Rattle.sm_awsjson.specs.messages.Goals.{Asked, a_request, a_response}
+use Rattle.sm_awsjson.specs.messages.HeadAnswers.{Address, IsJudged, addressed, refused_at_head}
+use Rattle.sm_awsjson.specs.messages.MessageForm.{MessageForm}
+use Rattle.sm_awsjson.specs.messages.declared.refusal.MessageRefusal.{MessageRefusal}
 use Rattle.sm_awsjson.specs.Begun.{AwsBegun}
 use Rattle.sm_awsjson.specs.declared.version.AwsVersion.TheVariants.{V10, V11}
 use Rattle.sm_rest_read.specs.Begun.{RestBegun}

@@ -1,20 +1,20 @@
 // Heads of messages of a protocol: which operation they ask for, and where a body is begun.
 ghost use Rattle.std.specs.Prelude.{◌≡◌, ◌<◌, IfOk, length};
-ghost use Rattle.sm_service.specs.Servable.{Servable};
-ghost use Rattle.sm_service.specs.ServiceView.{service_data};
-ghost use Rattle.sm_messages.specs.HeadAnswers.{IsNamed};
-ghost use Rattle.sm_messages.specs.IsForm.{ServesOperation};
+ghost use Rattle.sm_awsjson.specs.service.Servable.{Servable};
+ghost use Rattle.sm_awsjson.specs.service.ServiceView.{service_data};
+ghost use Rattle.sm_awsjson.specs.messages.HeadAnswers.{IsNamed};
+ghost use Rattle.sm_awsjson.specs.messages.IsForm.{ServesOperation};
 ghost use Rattle.sm_protocols.specs.Forms.{form_of};
 ghost use Rattle.sm_protocols.specs.Kept.{IsKeptOf, protocol_of};
 ghost use Rattle.sm_protocols.specs.ProtocolBodies.{BeginsRequest, BeginsResponse};
 
 use crate::body::{AWS_10, AWS_11, ProtocolBody};
 use crate::spoken::Spoken;
+use sm_awsjson::sm_messages::MessageRefusal;
+use sm_awsjson::sm_service::Service;
 use sm_http::Head;
-use sm_messages::MessageRefusal;
 use sm_rest_read::{begin_request as begin_rest_request, begin_response as begin_rest_response};
 use sm_rpc::Rpc;
-use sm_service::Service;
 use sm_tree::{NoMemory, Text};
 use std::alloc::Global;
 

@@ -1,6 +1,6 @@
 // What holds of each protocol, over the definitions alone. The call does nothing.
 ghost use Rattle.sm_http.specs.declared.message.Protocol.{Protocol};
-ghost use Rattle.sm_messages.specs.IsForm.{IsForm};
+ghost use Rattle.sm_awsjson.specs.messages.IsForm.{IsForm};
 ghost use Rattle.sm_protocols.specs.Forms.{form_of};
 
 /// Each protocol is a form of messages.

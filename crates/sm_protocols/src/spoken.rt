@@ -1,11 +1,11 @@
 // What is kept of a service for a protocol.
 ghost use Rattle.std.specs.Prelude.{IfOk};
-ghost use Rattle.sm_service.specs.Servable.{Servable};
-ghost use Rattle.sm_service.specs.ServiceView.{service_data};
+ghost use Rattle.sm_awsjson.specs.service.Servable.{Servable};
+ghost use Rattle.sm_awsjson.specs.service.ServiceView.{service_data};
 
+use sm_awsjson::sm_service::Service;
 use sm_http::Protocol;
-use sm_rest::Rest;
-use sm_service::Service;
+use sm_rest_laws::sm_rest::Rest;
 use sm_tree::NoMemory;
 use std::alloc::Global;
 

@@ -33,18 +33,18 @@ use Rattle.sm_codec.proofs.PlacesIn.{key_text}
 use Rattle.sm_codec.proofs.ReadValues.{one_value}
 use Rattle.sm_http.specs.FieldValues.{values_named}
 use Rattle.sm_compile.proofs.RowsAlike.{contains_mapped}
-use Rattle.sm_messages.specs.MessageForm.{Content, a_tree, nothing, raw_bytes}
+use Rattle.sm_bind_read.specs.messages.MessageForm.{Content, a_tree, nothing, raw_bytes}
 use Rattle.sm_parts.specs.HeaderLists.{entries_of, filled}
 use Rattle.sm_parts.specs.Texts.{number_read}
 use Rattle.sm_parts.specs.declared.list_entry.ListEntry.{ListEntry}
 use Rattle.sm_parts.specs.declared.list_entry.ListEntry.TheVariants.{Text as some_text, NoEntry as no_entry}
 use Rattle.sm_part_values.specs.PartTexts.{TextForm, entry_child, field_cut, fields_by, in_field, in_target, is_list, is_list_at, keyed_by}
 use Rattle.sm_part_values.specs.PartTexts.{keyed_texts, list_child, list_or_none, map_or_none, raw_by, text_child, texts_by}
-use Rattle.sm_service.specs.HttpServable.{HaveTargets}
-use Rattle.sm_service.specs.WireMembers.{is_integer_kind, is_map_kind, may_be_bound, target_seen_at, wire_member_at, wire_members}
+use Rattle.sm_bind_read.specs.service.HttpServable.{HaveTargets}
+use Rattle.sm_bind_read.specs.service.WireMembers.{is_integer_kind, is_map_kind, may_be_bound, target_seen_at, wire_member_at, wire_members}
 use Rattle.sm_excerpts.proofs.Extending.{members_there}
-use Rattle.sm_bind.specs.PartsData.{PartsData}
-use Rattle.sm_bind.specs.Roles.{Bound, binding_on, bound_members, has_document}
+use Rattle.sm_bind_read.specs.bind.PartsData.{PartsData}
+use Rattle.sm_bind_read.specs.bind.Roles.{Bound, binding_on, bound_members, has_document}
 use Rattle.sm_bind_read.specs.PartFaults.{bound_codec, is_no_object, parts_reading}
 use Rattle.sm_bind_read.specs.Parts.{bound_children, document_children, is_of_map, pairs_of_tree, payload_children, prefixed_texts, stands}
 use Rattle.sm_rest.proofs.ChildrenFit.{AllFit, EachFits, PairsFit, list_fits, map_fits, members_fit, named_fit}

@@ -5,15 +5,15 @@ use Rattle.std.proofs.lemmas.List.Elements.{Contains-get_or}
 use Rattle.sm_shapes.specs.TableData.{TableData}
 use Rattle.sm_compile.specs.declared.compiled.Served.{Served}
 use Rattle.sm_compile.specs.declared.compiled.Served.TheVariants.{Yes, Unserved}
-use Rattle.sm_service.specs.HttpServable.{AreBoundRight, HaveOwnParts, HaveTargets, HttpServable, IsHttpServable}
-use Rattle.sm_service.specs.ServiceData.{HttpData, OperationData, ServiceData}
-use Rattle.sm_service.specs.WireMembers.{wire_members}
-use Rattle.sm_messages.specs.Goals.{Goal, HasRole, Role, error_at, goal_shape, no_error, no_operation, operation_at, role_shape}
-use Rattle.sm_messages.specs.Goals.{the_error, the_input, the_output}
-use Rattle.sm_messages.specs.HeadAnswers.{path_unserved}
-use Rattle.sm_messages.specs.IsForm.{ServesGoal, ServesOperation}
+use Rattle.sm_bind_read.specs.service.HttpServable.{AreBoundRight, HaveOwnParts, HaveTargets, HttpServable, IsHttpServable}
+use Rattle.sm_bind_read.specs.service.ServiceData.{HttpData, OperationData, ServiceData}
+use Rattle.sm_bind_read.specs.service.WireMembers.{wire_members}
+use Rattle.sm_bind_read.specs.messages.Goals.{Goal, HasRole, Role, error_at, goal_shape, no_error, no_operation, operation_at, role_shape}
+use Rattle.sm_bind_read.specs.messages.Goals.{the_error, the_input, the_output}
+use Rattle.sm_bind_read.specs.messages.HeadAnswers.{path_unserved}
+use Rattle.sm_bind_read.specs.messages.IsForm.{ServesGoal, ServesOperation}
 use Rattle.sm_bind_read.specs.BoundGoals.{side_of}
-use Rattle.sm_bind_write.specs.Restrictions.{restriction, restriction_by}
+use Rattle.sm_bind_bodies.specs.bind_write.Restrictions.{restriction, restriction_by}
 use Rattle.sm_rest.specs.RestForm.{rest_form}
 
 -- its model serves it, and nothing restricts it

@@ -5,3 +5,5 @@ pub mod BoundFit
 pub mod GoalsServed
 pub mod RestReads
 pub mod TargetTexts
+pub use Rattle.sm_bind_read.proofs.messages
+pub use Rattle.sm_rest_heads.proofs as rest_heads

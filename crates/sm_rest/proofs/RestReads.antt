@@ -14,12 +14,12 @@ use Rattle.sm_codec.specs.FaultLists.{Reading}
 use Rattle.sm_codec.proofs.JsonLaws.{json_laws}
 use Rattle.sm_codec.proofs.NoFaults.{same_reading}
 use Rattle.sm_http.specs.declared.message.Head.{Head}
-use Rattle.sm_service.specs.ServiceData.{ServiceData}
-use Rattle.sm_messages.specs.Goals.{Goal, goal_shape}
-use Rattle.sm_messages.specs.HeadAnswers.{IsNamed}
-use Rattle.sm_messages.specs.IsForm.{ReadsMessages, Serves, ServesGoal}
-use Rattle.sm_messages.specs.MessageForm.{Content}
-use Rattle.sm_messages.proofs.TreeBodies.{goal_structure}
+use Rattle.sm_bind_read.specs.service.ServiceData.{ServiceData}
+use Rattle.sm_bind_read.specs.messages.Goals.{Goal, goal_shape}
+use Rattle.sm_bind_read.specs.messages.HeadAnswers.{IsNamed}
+use Rattle.sm_bind_read.specs.messages.IsForm.{ReadsMessages, Serves, ServesGoal}
+use Rattle.sm_bind_read.specs.messages.MessageForm.{Content}
+use Rattle.sm_bind_read.proofs.messages.TreeBodies.{goal_structure}
 use Rattle.sm_bind_read.specs.BoundGoals.{bound_at}
 use Rattle.sm_bind_read.specs.PartFaults.{bound_codec}
 use Rattle.sm_rest_heads.specs.RestParts.{head_parts}

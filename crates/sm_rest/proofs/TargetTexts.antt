@@ -30,9 +30,9 @@ use Rattle.sm_rules.specs.Words.{field_in, read_trait}
 use Rattle.sm_parts.specs.Laws.{AreBytesOf}
 use Rattle.sm_routes.specs.KeptOrder.{literal_bytes}
 use Rattle.sm_routes.specs.Routes.{literal_pair}
-use Rattle.sm_service.specs.Bound.{BindsMember, SaysBinding}
-use Rattle.sm_service.specs.Compiled.{SaysHttp, SaysHttpRule}
-use Rattle.sm_service.specs.ServiceData.{HttpData}
+use Rattle.sm_bind_read.specs.service.Bound.{BindsMember, SaysBinding}
+use Rattle.sm_bind_read.specs.service.Compiled.{SaysHttp, SaysHttpRule}
+use Rattle.sm_bind_read.specs.service.ServiceData.{HttpData}
 use Rattle.sm_rest.specs.Laws.{HasJsonTraits, TargetTextsWhereJson}
 use Rattle.sm_rest.specs.RestServable.{AreTextBytes, HasByteLiterals}
 use lib.Utf8.{encode, scalar, scalars}

@@ -4,8 +4,8 @@ use Rattle.sm_tree.specs.Json.{IsJson}
 use Rattle.sm_tree.specs.Node.{Node}
 use Rattle.sm_model.specs.Graphs.{GraphMaps}
 use Rattle.sm_compile.specs.Sound.{trait_of}
-use Rattle.sm_service.specs.Compiled.{IsServiceOf}
-use Rattle.sm_service.specs.ServiceData.{ServiceData}
+use Rattle.sm_bind_read.specs.service.Compiled.{IsServiceOf}
+use Rattle.sm_bind_read.specs.service.ServiceData.{ServiceData}
 use Rattle.sm_rest.specs.RestServable.{HasTargetTexts}
 
 -- the values of traits are JSON, as in every graph that statements of files come to

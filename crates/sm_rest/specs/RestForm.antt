@@ -5,14 +5,14 @@ use Rattle.sm_json.specs.JsonText.{json_syntax}
 use Rattle.sm_shapes.specs.Fitting.{Test}
 use Rattle.sm_codec.specs.FaultLists.{Reading, faults_in}
 use Rattle.sm_http.specs.declared.message.Head.{Head}
-use Rattle.sm_service.specs.ServiceData.{ServiceData}
-use Rattle.sm_messages.specs.Goals.{Goal, goal_of, the_input}
-use Rattle.sm_messages.specs.MessageForm.{Content, MessageForm}
-use Rattle.sm_messages.specs.Names.{told_by_body, told_by_head}
+use Rattle.sm_bind_read.specs.service.ServiceData.{ServiceData}
+use Rattle.sm_bind_read.specs.messages.Goals.{Goal, goal_of, the_input}
+use Rattle.sm_bind_read.specs.messages.MessageForm.{Content, MessageForm}
+use Rattle.sm_bind_read.specs.messages.Names.{told_by_body, told_by_head}
 use Rattle.sm_bind_read.specs.BoundGoals.{bound_at}
 use Rattle.sm_bind_read.specs.PartFaults.{parts_reading}
-use Rattle.sm_bind_write.specs.CarriedParts.{uncarried_parts}
-use Rattle.sm_bind_write.specs.Restrictions.{restriction}
+use Rattle.sm_bind_bodies.specs.bind_write.CarriedParts.{uncarried_parts}
+use Rattle.sm_bind_bodies.specs.bind_write.Restrictions.{restriction}
 use Rattle.sm_rest_heads.specs.BodyParts.{rest_use, wanted_type}
 use Rattle.sm_rest_heads.specs.RestParts.{head_parts}
 use Rattle.sm_rest_heads.specs.RestRoutes.{GoesTo, IsForOperation}

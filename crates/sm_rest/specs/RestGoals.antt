@@ -5,12 +5,12 @@ use Rattle.sm_shapes.specs.Places.{kind_of, member_place}
 use Rattle.sm_shapes.specs.TableData.{TableData, media_type_at}
 use Rattle.sm_shapes.specs.declared.kinds.ShapeKind.{ShapeKind}
 use Rattle.sm_shapes.specs.declared.kinds.ShapeKind.TheVariants as table
-use Rattle.sm_service.specs.ServiceData.{HttpData, OperationData, ServiceData}
-use Rattle.sm_service.specs.declared.error.ErrorShape.{ErrorShape}
-use Rattle.sm_messages.specs.Goals.{Goal, Role, error_at, operation_at, the_error, the_input, the_output}
-use Rattle.sm_messages.specs.WrittenHeads.{fault_status}
-use Rattle.sm_bind.specs.Roles.{Bound}
-use Rattle.sm_bind_write.specs.Restrictions.{is_media_type}
+use Rattle.sm_bind_read.specs.service.ServiceData.{HttpData, OperationData, ServiceData}
+use Rattle.sm_bind_read.specs.service.declared.error.ErrorShape.{ErrorShape}
+use Rattle.sm_bind_read.specs.messages.Goals.{Goal, Role, error_at, operation_at, the_error, the_input, the_output}
+use Rattle.sm_bind_read.specs.messages.WrittenHeads.{fault_status}
+use Rattle.sm_bind_read.specs.bind.Roles.{Bound}
+use Rattle.sm_bind_bodies.specs.bind_write.Restrictions.{is_media_type}
 use Rattle.sm_rest_heads.specs.BodyParts.{json_type, part_of}
 use Rattle.sm_rest_heads.specs.declared.bodies.BodyPart.{BodyPart}
 use Rattle.sm_rest_heads.specs.declared.bodies.BodyPart.TheVariants.{Document, Nothing, Raw, Tree}

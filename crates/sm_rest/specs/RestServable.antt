@@ -9,8 +9,8 @@ use Rattle.sm_parts.specs.Laws.{AreBytesOf}
 use Rattle.sm_routes.specs.KeptOrder.{literal_bytes}
 use Rattle.sm_routes.specs.Routes.{literal_pair}
 use Rattle.sm_shapes.specs.TableData.{binding_at, query}
-use Rattle.sm_service.specs.HttpServable.{HttpServable}
-use Rattle.sm_service.specs.ServiceData.{HttpData, OperationData, ServiceData}
+use Rattle.sm_bind_read.specs.service.HttpServable.{HttpServable}
+use Rattle.sm_bind_read.specs.service.ServiceData.{HttpData, OperationData, ServiceData}
 
 abbrev pub AreTextBytes : List ℕ → Type 0
 AreTextBytes u = All (λ b. b < 256) u

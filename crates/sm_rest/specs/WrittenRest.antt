@@ -4,14 +4,14 @@ use Rattle.std.specs.Prelude.{ℕ, List, [], ◌∷◌, ◌++◌, Option, None, 
 use Rattle.sm_shapes.specs.Values.{Val}
 use Rattle.sm_http.specs.declared.message.Field.{Field}
 use Rattle.sm_http.specs.declared.message.Message.{Message}
-use Rattle.sm_service.specs.ServiceData.{HttpData, ServiceData, name_of_error}
-use Rattle.sm_messages.specs.Goals.{Goal, Role, error_at, operation_at, the_error, the_input, the_output}
-use Rattle.sm_messages.specs.Names.{error_field_name}
-use Rattle.sm_messages.specs.WrittenHeads.{field_of, written_request, written_response}
-use Rattle.sm_bind.specs.PartsData.{PartsData}
+use Rattle.sm_bind_read.specs.service.ServiceData.{HttpData, ServiceData, name_of_error}
+use Rattle.sm_bind_read.specs.messages.Goals.{Goal, Role, error_at, operation_at, the_error, the_input, the_output}
+use Rattle.sm_bind_read.specs.messages.Names.{error_field_name}
+use Rattle.sm_bind_read.specs.messages.WrittenHeads.{field_of, written_request, written_response}
+use Rattle.sm_bind_read.specs.bind.PartsData.{PartsData}
 use Rattle.sm_bind_bodies.specs.WrittenBodies.{content_bytes}
 use Rattle.sm_bind_read.specs.BoundGoals.{bound_at}
-use Rattle.sm_bind_write.specs.WrittenParts.{request_target, written_content, written_parts}
+use Rattle.sm_bind_bodies.specs.bind_write.WrittenParts.{request_target, written_content, written_parts}
 use Rattle.sm_rest.specs.RestGoals.{rule_at, usual_status, written_type}
 
 abbrev pub goal_parts : ServiceData → Goal → Val → PartsData

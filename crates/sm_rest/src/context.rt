@@ -1,16 +1,16 @@
 // restJson1 of a service: its bindings and its routes, made once, and which operation a head asks for.
 ghost use Rattle.std.specs.Prelude.{◌≡◌, ◌<◌, IfOk, length};
-ghost use Rattle.sm_service.specs.Servable.{Servable};
-ghost use Rattle.sm_service.specs.ServiceView.{service_data};
-ghost use Rattle.sm_messages.specs.HeadAnswers.{IsNamed};
+ghost use Rattle.sm_bind_read.specs.service.Servable.{Servable};
+ghost use Rattle.sm_bind_read.specs.service.ServiceView.{service_data};
+ghost use Rattle.sm_bind_read.specs.messages.HeadAnswers.{IsNamed};
 ghost use Rattle.sm_rest.specs.RestForm.{rest_form};
 ghost use Rattle.sm_rest.specs.RestOf.{IsRestOf};
 
-use sm_bind::Bindings;
+use sm_bind_read::sm_bind::Bindings;
+use sm_bind_read::sm_service::Service;
 use sm_http::Head;
 use sm_rest_heads::{operation_asked, routes_of};
 use sm_routes::Routes;
-use sm_service::Service;
 use sm_tree::{NoMemory, Text};
 use std::alloc::Global;
 
@@ -62,6 +62,6 @@ impl Rest {
         requires number { operation < length (service_data service.now).operations }
         ensures { IfOk result (λ path. path ≡ rest_form.restriction (service_data service.now) operation) }
     {
-        sm_bind_write::restriction(alloc, service, operation)
+        sm_bind_bodies::sm_bind_write::restriction(alloc, service, operation)
     }
 }

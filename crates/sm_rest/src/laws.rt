@@ -1,5 +1,5 @@
 // What holds of the messages of restJson1, over the definitions alone. These calls do nothing.
-ghost use Rattle.sm_messages.specs.Laws.{OneAnswer, OneReply, SomeAnswer};
+ghost use Rattle.sm_bind_read.specs.messages.Laws.{OneAnswer, OneReply, SomeAnswer};
 ghost use Rattle.sm_rest.specs.Laws.{TargetTextsWhereJson};
 ghost use Rattle.sm_rest.specs.RestForm.{rest_form};
 

@@ -6,3 +6,8 @@ mod context;
 pub mod laws;
 
 pub use context::Rest;
+pub use sm_bind_bodies;
+pub use sm_bind_bodies::sm_bind_write;
+pub use sm_bind_read;
+pub use sm_bind_read::{sm_bind, sm_messages, sm_service};
+pub use sm_rest_heads;

@@ -20,8 +20,8 @@ use Rattle.sm_http.specs.declared.message.Start.TheVariants.{Request, Response}
 use Rattle.sm_model.specs.Graphs.{text_cmp}
 use Rattle.sm_uri.specs.declared.pattern.Segment.{Segment}
 use Rattle.sm_routes.specs.Routes.{IsFirstRoute, IsRouted, RouteData, ranks_cmp, route_cmp, route_matches, segment_rank}
-use Rattle.sm_service.specs.Servable.{Servable}
-use Rattle.sm_service.specs.ServiceData.{HttpData, OperationData, ServiceData}
+use Rattle.sm_bind.specs.service.Servable.{Servable}
+use Rattle.sm_bind.specs.service.ServiceData.{HttpData, OperationData, ServiceData}
 use Rattle.sm_messages.specs.Goals.{no_operation, operation_at}
 use Rattle.sm_messages.proofs.OperationsNamed.{one_number}
 use Rattle.sm_rest_heads.specs.RestRoutes.{GoesTo, IsAskedFor, IsForOperation, route_of, routes_at, routes_from, routes_of}

@@ -3,7 +3,7 @@ use Rattle.std.specs.Prelude.{ℕ, List, [], Option, Some, None}
 use Rattle.sm_http.specs.declared.message.Head.{Head}
 use Rattle.sm_http.specs.declared.message.Start.{Start}
 use Rattle.sm_http.specs.declared.message.Start.TheVariants.{Request, Response}
-use Rattle.sm_service.specs.ServiceData.{HttpData, ServiceData}
+use Rattle.sm_bind.specs.service.ServiceData.{HttpData, ServiceData}
 use Rattle.sm_parts.specs.Targets.{QueryPair}
 use Rattle.sm_routes.specs.WrittenTargets.{LabelText, pairs_left, target_labels}
 use Rattle.sm_messages.specs.Goals.{Asked, Goal, Role, a_request, a_response, operation_at, the_error, the_input, the_output}

@@ -4,7 +4,7 @@ use Rattle.std.specs.Prelude.{◌≡◌, ◌++◌, ℕ, suc, true, List, [], ◌
 use Rattle.sm_http.specs.declared.message.Head.{Head}
 use Rattle.sm_http.specs.declared.message.Start.{Start}
 use Rattle.sm_http.specs.declared.message.Start.TheVariants.{Request}
-use Rattle.sm_service.specs.ServiceData.{HttpData, OperationData, ServiceData}
+use Rattle.sm_bind.specs.service.ServiceData.{HttpData, OperationData, ServiceData}
 use Rattle.sm_routes.specs.Routes.{IsFirstRoute, RouteData, route_matches}
 use Rattle.sm_messages.specs.Goals.{operation_at}
 

@@ -1,7 +1,7 @@
 // The operation to which a request goes by its head.
 ghost use Rattle.std.specs.List.Sorted.{IsPermutation};
 ghost use Rattle.sm_routes.specs.RoutesView.{routes_view};
-ghost use Rattle.sm_service.specs.ServiceData.{ServiceData};
+ghost use Rattle.sm_bind.specs.service.ServiceData.{ServiceData};
 ghost use Rattle.sm_rest_heads.specs.RestRoutes.{IsAskedFor, routes_of};
 
 use sm_http::{Head, Start};

@@ -1,7 +1,7 @@
 // The parts of a message that stand in its head.
 ghost use Rattle.std.specs.Prelude.{◌≡◌, ◌<◌, IfOk, [], length};
 ghost use Rattle.std.specs.Option.{option_map};
-ghost use Rattle.sm_service.specs.ServiceView.{http_data, service_data};
+ghost use Rattle.sm_bind.specs.service.ServiceView.{http_data, service_data};
 ghost use Rattle.sm_http.specs.declared.message.Start.TheVariants.{Response};
 ghost use Rattle.sm_messages.specs.Goals.{goal_of, the_input};
 ghost use Rattle.sm_messages.specs.WrittenHeads.{with_fields};
@@ -9,10 +9,10 @@ ghost use Rattle.sm_bind.specs.BindingsView.{parts_data};
 ghost use Rattle.sm_rest_heads.specs.RestParts.{head_parts, labels_by, pairs_by, request_parts, response_parts, status_in, target_in};
 
 use sm_bind::Parts;
+use sm_bind::sm_service::{HttpRule, Service};
 use sm_http::{Field, Head, Message, Start};
 use sm_messages::{message_begun, operation_at};
 use sm_routes::{labels, pairs_left};
-use sm_service::{HttpRule, Service};
 use sm_tree::{Bytes, NoMemory, Text};
 use std::alloc::Global;
 

@@ -3,13 +3,13 @@ ghost use Rattle.std.specs.Prelude.{◌≡◌, ◌<◌, ◌^◌, ◌++◌, IfOk,
 ghost use Rattle.std.specs.List.Sorted.{IsPermutation};
 ghost use Rattle.sm_routes.specs.RouteView.{route_data};
 ghost use Rattle.sm_routes.specs.RoutesView.{routes_view};
-ghost use Rattle.sm_service.specs.Servable.{Servable};
-ghost use Rattle.sm_service.specs.ServiceView.{http_data, operation_data, service_data};
+ghost use Rattle.sm_bind.specs.service.Servable.{Servable};
+ghost use Rattle.sm_bind.specs.service.ServiceView.{http_data, operation_data, service_data};
 ghost use Rattle.sm_rest_heads.specs.RestRoutes.{route_of, routes_at, routes_from, routes_of};
 
 use crate::copies::copy_uri;
+use sm_bind::sm_service::{HttpRule, Operation, Service};
 use sm_routes::{Route, Routes};
-use sm_service::{HttpRule, Operation, Service};
 use sm_tree::{NoMemory, Text};
 use std::alloc::Global;
 

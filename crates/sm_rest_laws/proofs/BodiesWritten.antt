@@ -21,23 +21,23 @@ use Rattle.sm_codec.specs.Written.{uncarried, written}
 use Rattle.sm_codec.proofs.JsonWrites.{json_writes}
 use Rattle.sm_codec.proofs.WrittenForms.{written_is_json}
 use Rattle.sm_excerpts.proofs.Extending.{members_there}
-use Rattle.sm_service.specs.WireMembers.{is_payload_kind, wire_member_at}
-use Rattle.sm_messages.specs.Heads.{is_empty}
-use Rattle.sm_messages.specs.MessageForm.{Content, HasContent, a_tree, nothing, raw_bytes}
-use Rattle.sm_bind.specs.Documents.{is_tree_kind}
-use Rattle.sm_bind.specs.Roles.{Bound, binding_on, bound_members, has_document, is_in_document}
-use Rattle.sm_bind_bodies.specs.WrittenBodies.{content_bytes}
-use Rattle.sm_bind_write.specs.CarriedParts.{uncarried_bound}
-use Rattle.sm_bind_write.specs.Restrictions.{is_collection}
-use Rattle.sm_bind_write.specs.WrittenParts.{document_pairs, payload_among, payload_by, payload_content, written_content}
+use Rattle.sm_bind_laws.specs.service.WireMembers.{is_payload_kind, wire_member_at}
+use Rattle.sm_bind_laws.specs.messages.Heads.{is_empty}
+use Rattle.sm_bind_laws.specs.messages.MessageForm.{Content, HasContent, a_tree, nothing, raw_bytes}
+use Rattle.sm_bind_laws.specs.bind.Documents.{is_tree_kind}
+use Rattle.sm_bind_laws.specs.bind.Roles.{Bound, binding_on, bound_members, has_document, is_in_document}
+use Rattle.sm_rest.specs.bind_bodies.WrittenBodies.{content_bytes}
+use Rattle.sm_bind_laws.specs.bind_write.CarriedParts.{uncarried_bound}
+use Rattle.sm_bind_laws.specs.bind_write.Restrictions.{is_collection}
+use Rattle.sm_bind_laws.specs.bind_write.WrittenParts.{document_pairs, payload_among, payload_by, payload_content, written_content}
 use Rattle.sm_bind_laws.specs.BoundRight.{IsBoundRight}
 use Rattle.sm_bind_laws.specs.FoundParts.{IsReadAs}
 use Rattle.sm_bind_laws.proofs.FieldsEach.{EachField}
 use Rattle.sm_bind_laws.proofs.OwnParts.{one_payload, there_of}
-use Rattle.sm_rest_heads.specs.BodyParts as bodies
-use Rattle.sm_rest_heads.specs.BodyParts.{is_tree_at, part_of, payload_of, payload_or, payload_part, rest_use, use_by}
-use Rattle.sm_rest_heads.specs.declared.bodies.BodyPart.{BodyPart}
-use Rattle.sm_rest_heads.specs.declared.bodies.BodyPart.TheVariants.{Document, Nothing, Raw, Tree}
+use Rattle.sm_rest.specs.rest_heads.BodyParts as bodies
+use Rattle.sm_rest.specs.rest_heads.BodyParts.{is_tree_at, part_of, payload_of, payload_or, payload_part, rest_use, use_by}
+use Rattle.sm_rest.specs.rest_heads.declared.bodies.BodyPart.{BodyPart}
+use Rattle.sm_rest.specs.rest_heads.declared.bodies.BodyPart.TheVariants.{Document, Nothing, Raw, Tree}
 
 -- the content as which a body is read
 pub record IsBodyRead (b : Bound) (written : Content) (bytes : List ℕ) : Type 0 where

@@ -2,16 +2,16 @@
 use Rattle.std.proofs.Common.{◌≡◌, ℕ, Bool, true, false, cond, List, [], ◌∷◌, ◌++◌, Some, refl, sym, ap}
 use Rattle.std.specs.Prelude.{◌==◌, codes}
 use Rattle.sm_http.specs.declared.message.Field.{Field}
-use Rattle.sm_service.specs.ServiceData.{HttpData}
-use Rattle.sm_messages.specs.Heads.{is_empty}
-use Rattle.sm_messages.specs.Names.{error_field_name}
-use Rattle.sm_messages.specs.WrittenHeads.{field_of, length_field, length_fields, type_fields, written_request, written_response}
+use Rattle.sm_bind_laws.specs.service.ServiceData.{HttpData}
+use Rattle.sm_bind_laws.specs.messages.Heads.{is_empty}
+use Rattle.sm_bind_laws.specs.messages.Names.{error_field_name}
+use Rattle.sm_bind_laws.specs.messages.WrittenHeads.{field_of, length_field, length_fields, type_fields, written_request, written_response}
 use Rattle.sm_routes.specs.WrittenTargets.{pairs_left, target_labels}
-use Rattle.sm_bind.specs.PartsData.{PartsData}
-use Rattle.sm_bind_write.specs.WrittenParts.{request_target}
+use Rattle.sm_bind_laws.specs.bind.PartsData.{PartsData}
+use Rattle.sm_bind_laws.specs.bind_write.WrittenParts.{request_target}
 use Rattle.sm_bind_laws.specs.FoundParts.{AreFound, AreReserved}
 use Rattle.sm_bind_laws.specs.WrittenLabels.{texts_for}
-use Rattle.sm_rest_heads.specs.RestParts.{request_parts, response_parts}
+use Rattle.sm_rest.specs.rest_heads.RestParts.{request_parts, response_parts}
 
 type_reserved : (e : Bool) (content_type : List ℕ) → AreReserved (type_fields e content_type)
 type_reserved true content_type = tt

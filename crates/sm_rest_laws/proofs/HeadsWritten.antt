@@ -12,24 +12,24 @@ use Rattle.sm_http.specs.FieldValues.{only_value, values_named}
 use Rattle.sm_http.specs.declared.message.Field.{Field}
 use Rattle.sm_http.specs.declared.message.Head.{Head}
 use Rattle.sm_http.specs.declared.message.Start.TheVariants.{Response}
-use Rattle.sm_service.specs.ErrorOrder.{place_named}
-use Rattle.sm_service.specs.HttpServable.{IsStatusOf}
-use Rattle.sm_service.specs.Servable.{IsServableOperation}
-use Rattle.sm_service.specs.ServiceData.{ServiceData, name_of_error}
-use Rattle.sm_service.specs.declared.error.ErrorShape.{ErrorShape}
-use Rattle.sm_service.proofs.ServableIds.{name_is_identifier}
-use Rattle.sm_messages.specs.Goals.{error_at, goal_of, no_error, operation_at, the_error, the_input, the_output}
-use Rattle.sm_messages.specs.HeadAnswers.{addressed, error_answer, is_request_type, known_error, refused_at_head, response_answer, to_goal}
-use Rattle.sm_messages.specs.HeadAnswers.{wrong_media_type}
-use Rattle.sm_messages.specs.Heads.{is_empty, is_type, is_identity, is_plain, is_right_type, is_success}
-use Rattle.sm_messages.specs.Names.{error_field_name, error_told, told_by_head}
-use Rattle.sm_messages.specs.WrittenHeads.{fault_status, field_of, length_field, length_fields, written_request, written_response}
-use Rattle.sm_messages.proofs.ErrorsTold.{name_told, place_of_error}
-use Rattle.sm_bind_read.specs.BoundGoals.{bound_at}
+use Rattle.sm_bind_laws.specs.service.ErrorOrder.{place_named}
+use Rattle.sm_bind_laws.specs.service.HttpServable.{IsStatusOf}
+use Rattle.sm_bind_laws.specs.service.Servable.{IsServableOperation}
+use Rattle.sm_bind_laws.specs.service.ServiceData.{ServiceData, name_of_error}
+use Rattle.sm_bind_laws.specs.service.declared.error.ErrorShape.{ErrorShape}
+use Rattle.sm_bind_laws.proofs.service.ServableIds.{name_is_identifier}
+use Rattle.sm_bind_laws.specs.messages.Goals.{error_at, goal_of, no_error, operation_at, the_error, the_input, the_output}
+use Rattle.sm_bind_laws.specs.messages.HeadAnswers.{addressed, error_answer, is_request_type, known_error, refused_at_head, response_answer, to_goal}
+use Rattle.sm_bind_laws.specs.messages.HeadAnswers.{wrong_media_type}
+use Rattle.sm_bind_laws.specs.messages.Heads.{is_empty, is_type, is_identity, is_plain, is_right_type, is_success}
+use Rattle.sm_bind_laws.specs.messages.Names.{error_field_name, error_told, told_by_head}
+use Rattle.sm_bind_laws.specs.messages.WrittenHeads.{fault_status, field_of, length_field, length_fields, written_request, written_response}
+use Rattle.sm_bind_laws.proofs.messages.ErrorsTold.{name_told, place_of_error}
+use Rattle.sm_bind_laws.specs.bind_read.BoundGoals.{bound_at}
 use Rattle.sm_bind_laws.proofs.HeadersFound.{values_both}
-use Rattle.sm_rest_heads.specs.BodyParts.{part_of, wanted_by}
-use Rattle.sm_rest_heads.specs.declared.bodies.BodyPart.{BodyPart}
-use Rattle.sm_rest_heads.specs.declared.bodies.BodyPart.TheVariants.{Document, Nothing, Raw, Tree}
+use Rattle.sm_rest.specs.rest_heads.BodyParts.{part_of, wanted_by}
+use Rattle.sm_rest.specs.rest_heads.declared.bodies.BodyPart.{BodyPart}
+use Rattle.sm_rest.specs.rest_heads.declared.bodies.BodyPart.TheVariants.{Document, Nothing, Raw, Tree}
 use Rattle.sm_rest.specs.RestForm.{rest_form}
 use Rattle.sm_rest.specs.RestGoals.{error_status, type_by, written_type}
 use Rattle.sm_rest_laws.proofs.NoReserved.{NoneReserved, none_named}

@@ -12,9 +12,9 @@ use Rattle.sm_shapes.proofs.NamedMembers.{IsAmong, among_contains}
 use Rattle.sm_http.specs.FieldValues.{values_named}
 use Rattle.sm_http.specs.declared.message.Field.{Field}
 use Rattle.sm_part_texts.specs.PlaceTexts.{prefixed_fields}
-use Rattle.sm_bind.specs.Roles.{Bound, binding_on, bound_members, is_among, reserved_names}
-use Rattle.sm_bind_write.specs.CarriedParts.{prefixed_failing, uncarried_bound}
-use Rattle.sm_bind_write.specs.WrittenParts.{entries_in, member_headers, over_fields}
+use Rattle.sm_bind_laws.specs.bind.Roles.{Bound, binding_on, bound_members, is_among, reserved_names}
+use Rattle.sm_bind_laws.specs.bind_write.CarriedParts.{prefixed_failing, uncarried_bound}
+use Rattle.sm_bind_laws.specs.bind_write.WrittenParts.{entries_in, member_headers, over_fields}
 use Rattle.sm_bind_laws.specs.BoundRight.{IsBoundRight}
 use Rattle.sm_bind_laws.specs.FoundParts.{is_reserved}
 use Rattle.sm_bind_laws.proofs.FieldsEach.{EachField}

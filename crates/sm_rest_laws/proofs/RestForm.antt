@@ -14,28 +14,28 @@ use Rattle.sm_shapes.specs.Places.{member_place, root_place}
 use Rattle.sm_shapes.specs.Values.{FieldVals, Val, structure_val}
 use Rattle.sm_shapes.proofs.NamedMembers.{IsAmong}
 use Rattle.sm_http.specs.declared.message.Start.TheVariants.{Response}
-use Rattle.sm_service.specs.HttpServable.{IsHttpServable}
-use Rattle.sm_service.specs.ServiceData.{HttpData, ServiceData, name_of_error}
-use Rattle.sm_messages.specs.Goals.{Goal, Role, error_at, goal_of, goal_shape, no_error, no_operation, operation_at, the_error, the_input}
-use Rattle.sm_messages.specs.Goals.{the_output}
-use Rattle.sm_messages.specs.HeadAnswers.{path_unserved, to_goal}
-use Rattle.sm_messages.specs.Heads.{is_success}
-use Rattle.sm_messages.specs.IsForm.{IsForm, Serves, ServesGoal}
-use Rattle.sm_messages.specs.Messages.{Msg, request_head, response_head}
-use Rattle.sm_messages.specs.TreeBodies.{fields_in, goal_place}
-use Rattle.sm_messages.specs.Names.{error_field_name}
-use Rattle.sm_messages.specs.WrittenHeads.{field_of, written_request, written_response}
-use Rattle.sm_messages.proofs.TreeBodies.{fields_back, goal_structure, operation_servable}
+use Rattle.sm_bind_laws.specs.service.HttpServable.{IsHttpServable}
+use Rattle.sm_bind_laws.specs.service.ServiceData.{HttpData, ServiceData, name_of_error}
+use Rattle.sm_bind_laws.specs.messages.Goals.{Goal, Role, error_at, goal_of, goal_shape, no_error, no_operation, operation_at, the_error, the_input}
+use Rattle.sm_bind_laws.specs.messages.Goals.{the_output}
+use Rattle.sm_bind_laws.specs.messages.HeadAnswers.{path_unserved, to_goal}
+use Rattle.sm_bind_laws.specs.messages.Heads.{is_success}
+use Rattle.sm_bind_laws.specs.messages.IsForm.{IsForm, Serves, ServesGoal}
+use Rattle.sm_bind_laws.specs.messages.Messages.{Msg, request_head, response_head}
+use Rattle.sm_bind_laws.specs.messages.TreeBodies.{fields_in, goal_place}
+use Rattle.sm_bind_laws.specs.messages.Names.{error_field_name}
+use Rattle.sm_bind_laws.specs.messages.WrittenHeads.{field_of, written_request, written_response}
+use Rattle.sm_bind_laws.proofs.messages.TreeBodies.{fields_back, goal_structure, operation_servable}
 use Rattle.sm_uri.specs.UriPattern.{QueryLiteral, label_names}
 use Rattle.sm_parts.specs.Laws.{AreBytesOf}
 use Rattle.sm_routes.specs.Routes.{literal_pair, route_matches}
 use Rattle.sm_part_texts.specs.Laws.{CarriedTextsPass}
-use Rattle.sm_bind.specs.Roles.{binding_on, bound_members}
-use Rattle.sm_bind_read.specs.BoundGoals.{bound_at}
-use Rattle.sm_bind_read.specs.PartFaults.{parts_reading}
-use Rattle.sm_bind_write.specs.CarriedParts.{uncarried_bound, uncarried_parts}
-use Rattle.sm_bind_write.specs.Restrictions.{restriction}
-use Rattle.sm_bind_write.specs.WrittenParts.{request_target, written_content}
+use Rattle.sm_bind_laws.specs.bind.Roles.{binding_on, bound_members}
+use Rattle.sm_bind_laws.specs.bind_read.BoundGoals.{bound_at}
+use Rattle.sm_bind_laws.specs.bind_read.PartFaults.{parts_reading}
+use Rattle.sm_bind_laws.specs.bind_write.CarriedParts.{uncarried_bound, uncarried_parts}
+use Rattle.sm_bind_laws.specs.bind_write.Restrictions.{restriction}
+use Rattle.sm_bind_laws.specs.bind_write.WrittenParts.{request_target, written_content}
 use Rattle.sm_bind_laws.specs.BoundRight.{IsBoundRight}
 use Rattle.sm_bind_laws.specs.Laws.{WrittenPartsRead}
 use Rattle.sm_bind_laws.specs.WrittenLabels.{IsLiteralOfBytes}
@@ -43,8 +43,8 @@ use Rattle.sm_bind_laws.proofs.EachCarried.{CanBeRead, IsReady, can_be_read}
 use Rattle.sm_bind_laws.proofs.FieldsEach.{each_map}
 use Rattle.sm_bind_laws.proofs.TargetsRead.{target_again}
 use Rattle.sm_bind_laws.proofs.WrittenMatches.{AreSegmentBytes, target_matches}
-use Rattle.sm_rest_heads.specs.RestParts.{request_parts, response_parts}
-use Rattle.sm_rest_heads.specs.RestRoutes.{IsForOperation, route_of}
+use Rattle.sm_rest.specs.rest_heads.RestParts.{request_parts, response_parts}
+use Rattle.sm_rest.specs.rest_heads.RestRoutes.{IsForOperation, route_of}
 use Rattle.sm_rest.specs.RestForm.{rest_form}
 use Rattle.sm_rest.specs.RestGoals.{code_of, usual_status, written_type}
 use Rattle.sm_rest.specs.RestServable.{HasByteLiterals}

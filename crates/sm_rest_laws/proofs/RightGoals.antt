@@ -11,21 +11,21 @@ use Rattle.sm_shapes.specs.Names.{AllDiffer}
 use Rattle.sm_shapes.specs.Places.{kind_of, member_place}
 use Rattle.sm_shapes.specs.TableData.{BindingData, TableData, binding_at, header, label, members_at, payload, response_code}
 use Rattle.sm_shapes.proofs.NamedMembers.{IsAmong, contains_among}
-use Rattle.sm_service.specs.HttpServable.{HaveOwnQueries, IsHttpServable}
-use Rattle.sm_service.specs.ServiceData.{HttpData, OperationData, ServiceData}
-use Rattle.sm_service.specs.WireMembers.{counted_binding, wire_member_at, wire_members}
-use Rattle.sm_service.specs.declared.error.ErrorShape.{ErrorShape}
+use Rattle.sm_bind_laws.specs.service.HttpServable.{HaveOwnQueries, IsHttpServable}
+use Rattle.sm_bind_laws.specs.service.ServiceData.{HttpData, OperationData, ServiceData}
+use Rattle.sm_bind_laws.specs.service.WireMembers.{counted_binding, wire_member_at, wire_members}
+use Rattle.sm_bind_laws.specs.service.declared.error.ErrorShape.{ErrorShape}
 use Rattle.sm_uri.specs.UriPattern.{label_names}
-use Rattle.sm_messages.specs.Goals.{Goal, HasRole, Role, goal_shape, no_error, operation_at, role_shape, the_error, the_input}
-use Rattle.sm_messages.specs.Goals.{the_output}
-use Rattle.sm_messages.specs.IsForm.{Serves, ServesGoal}
-use Rattle.sm_messages.proofs.TreeBodies.{goal_structure}
+use Rattle.sm_bind_laws.specs.messages.Goals.{Goal, HasRole, Role, goal_shape, no_error, operation_at, role_shape, the_error, the_input}
+use Rattle.sm_bind_laws.specs.messages.Goals.{the_output}
+use Rattle.sm_bind_laws.specs.messages.IsForm.{Serves, ServesGoal}
+use Rattle.sm_bind_laws.proofs.messages.TreeBodies.{goal_structure}
 use Rattle.sm_routes.specs.Routes.{is_routed}
-use Rattle.sm_bind.specs.Roles.{Bound, binding_on, bound_members, is_among, reserved_names}
-use Rattle.sm_bind.proofs.Counted.{kept_is, kept_on}
-use Rattle.sm_bind_read.specs.BoundGoals.{bound_at, side_of}
-use Rattle.sm_bind_write.specs.Restrictions.{error_root, first_refused, is_collection, is_refused, is_refused_on, is_status}
-use Rattle.sm_bind_write.specs.Restrictions.{path_or, refused_in, refused_in_errors, refused_on, restriction_by}
+use Rattle.sm_bind_laws.specs.bind.Roles.{Bound, binding_on, bound_members, is_among, reserved_names}
+use Rattle.sm_bind_laws.proofs.bind.Counted.{kept_is, kept_on}
+use Rattle.sm_bind_laws.specs.bind_read.BoundGoals.{bound_at, side_of}
+use Rattle.sm_bind_laws.specs.bind_write.Restrictions.{error_root, first_refused, is_collection, is_refused, is_refused_on, is_status}
+use Rattle.sm_bind_laws.specs.bind_write.Restrictions.{path_or, refused_in, refused_in_errors, refused_on, restriction_by}
 use Rattle.sm_bind_laws.specs.BoundRight.{IsBoundRight}
 use Rattle.sm_bind_laws.proofs.OwnParts.{own_binding, there_of}
 use Rattle.sm_rest.specs.RestForm.{rest_form}

@@ -7,13 +7,13 @@ use Rattle.sm_rules.specs.Bindings.{BoundSide, an_error, an_input, an_output}
 use Rattle.sm_shapes.specs.TableData.{BindingData, TableData, binding_at, label, query, query_params, header, prefix_headers, payload}
 use Rattle.sm_shapes.specs.TableData.{response_code}
 use Rattle.sm_shapes.specs.Values.{FieldVals, Val, field, int_val, no_fields}
-use Rattle.sm_service.specs.WireMembers.{counted_binding}
+use Rattle.sm_bind_laws.specs.service.WireMembers.{counted_binding}
 use Rattle.sm_http.specs.declared.message.Start.TheVariants.{Response}
-use Rattle.sm_messages.specs.Heads as heads
-use Rattle.sm_bind.specs.Roles.{Bound, binding_on}
-use Rattle.sm_bind_write.specs.CarriedParts.{has_body, is_bodiless, is_status, uncarried_bound}
-use Rattle.sm_bind_write.specs.WrittenParts.{member_pairs, member_params, member_status, status_among, written_pairs}
-use Rattle.sm_bind_write.specs.WrittenParts.{written_params}
+use Rattle.sm_bind_laws.specs.messages.Heads as heads
+use Rattle.sm_bind_laws.specs.bind.Roles.{Bound, binding_on}
+use Rattle.sm_bind_laws.specs.bind_write.CarriedParts.{has_body, is_bodiless, is_status, uncarried_bound}
+use Rattle.sm_bind_laws.specs.bind_write.WrittenParts.{member_pairs, member_params, member_status, status_among, written_pairs}
+use Rattle.sm_bind_laws.specs.bind_write.WrittenParts.{written_params}
 use Rattle.sm_bind_laws.proofs.FieldsEach.{EachField}
 use Rattle.sm_part_texts.proofs.TextsHad.{passed_here}
 

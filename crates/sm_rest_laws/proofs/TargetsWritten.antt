@@ -19,8 +19,8 @@ use Rattle.sm_shapes.specs.declared.kinds.ShapeKind.TheVariants as kind
 use Rattle.sm_shapes.proofs.NamedMembers.{IsAmong, contains_among}
 use Rattle.sm_codec.specs.Written.{paths_under}
 use Rattle.sm_codec.proofs.NoFaults.{none_behind, none_first}
-use Rattle.sm_service.specs.HttpServable.{AreLabelled}
-use Rattle.sm_service.specs.WireMembers.{counted_binding, wire_member_at, wire_members}
+use Rattle.sm_bind_laws.specs.service.HttpServable.{AreLabelled}
+use Rattle.sm_bind_laws.specs.service.WireMembers.{counted_binding, wire_member_at, wire_members}
 use Rattle.sm_uri.specs.UriPattern.{UriSaid, label_names}
 use Rattle.sm_parts.specs.Laws.{AreBytesOf}
 use Rattle.sm_parts.specs.HeaderLists.{is_filled}
@@ -29,12 +29,12 @@ use Rattle.sm_part_texts.specs.CarriedTexts.{value_passes}
 use Rattle.sm_part_texts.specs.Laws.{CarriedTextsPass}
 use Rattle.sm_part_texts.specs.PlaceTexts.{in_targets, keyed_texts, pairs_under, simple_at, text_at, texts_at}
 use Rattle.sm_part_texts.specs.declared.carried.TextTest.TheVariants.{OfLabel, OfQuery}
-use Rattle.sm_part_laws.specs.Coming.{AreCarried}
-use Rattle.sm_part_laws.proofs.LeavesAgain.{kind_fits, null_untold, target_utf8}
-use Rattle.sm_bind.specs.Roles.{Bound, binding_on, bound_members}
-use Rattle.sm_bind_write.specs.CarriedParts.{uncarried_bound}
-use Rattle.sm_bind_write.specs.WrittenParts.{entries_in, member_pairs, member_params, written_labels, written_pairs, written_params}
-use Rattle.sm_bind_write.specs.WrittenParts.{written_parts}
+use Rattle.sm_bind_laws.specs.part_laws.Coming.{AreCarried}
+use Rattle.sm_bind_laws.proofs.part_laws.LeavesAgain.{kind_fits, null_untold, target_utf8}
+use Rattle.sm_bind_laws.specs.bind.Roles.{Bound, binding_on, bound_members}
+use Rattle.sm_bind_laws.specs.bind_write.CarriedParts.{uncarried_bound}
+use Rattle.sm_bind_laws.specs.bind_write.WrittenParts.{entries_in, member_pairs, member_params, written_labels, written_pairs, written_params}
+use Rattle.sm_bind_laws.specs.bind_write.WrittenParts.{written_parts}
 use Rattle.sm_bind_laws.specs.WrittenLabels.{AreAllBytes, CanBeWritten, HasLiteralBytes, IsLabelled}
 use Rattle.sm_bind_laws.proofs.EachCarried.{CanBeRead, IsReady}
 use Rattle.sm_bind_laws.proofs.FieldsEach.{EachField}

@@ -2,9 +2,11 @@
 // that spells it. These calls do nothing: their contracts are the laws.
 #![tactic(auto)]
 
-ghost use Rattle.sm_messages.specs.IsForm.{IsForm};
-ghost use Rattle.sm_messages.specs.Laws.{WrittenIsMessage};
+ghost use Rattle.sm_bind_laws.specs.messages.IsForm.{IsForm};
+ghost use Rattle.sm_bind_laws.specs.messages.Laws.{WrittenIsMessage};
 ghost use Rattle.sm_rest.specs.RestForm.{rest_form};
+
+pub use sm_rest;
 
 /// What is written for a value that is carried is a message that spells it.
 pub fn written_is_message()

@@ -7,13 +7,13 @@ use Rattle.sm_shapes.specs.TableData.{BindingData, kind_at, label, member_count,
 use Rattle.sm_shapes.specs.TableData.{prefix_headers, response_code, shape_count, target_at}
 use Rattle.sm_shapes.specs.declared.kinds.ShapeKind.TheVariants.{Structure}
 use Rattle.sm_excerpts.proofs.Extending.{members_there, more_shapes}
-use Rattle.sm_messages.specs.MessageForm.{as_text}
-use Rattle.sm_bind.specs.BindingsView.{AreBindingsOf, BindingsData, body_at}
-use Rattle.sm_bind.specs.Documents.{IsBodyBy, payload_shape, shape_by}
-use Rattle.sm_bind.specs.Roles.{Bound, binding_on, bound_members, bound_on, has_document}
-use Rattle.sm_rest_heads.specs.BodyParts.{is_tree_at, part_of, payload_among, payload_of, payload_or, payload_part, rest_use, use_by}
-use Rattle.sm_rest_heads.specs.declared.bodies.BodyPart.{BodyPart}
-use Rattle.sm_rest_heads.specs.declared.bodies.BodyPart.TheVariants.{Document, Nothing, Raw, Tree}
+use Rattle.sm_rest.specs.messages.MessageForm.{as_text}
+use Rattle.sm_rest.specs.bind.BindingsView.{AreBindingsOf, BindingsData, body_at}
+use Rattle.sm_rest.specs.bind.Documents.{IsBodyBy, payload_shape, shape_by}
+use Rattle.sm_rest.specs.bind.Roles.{Bound, binding_on, bound_members, bound_on, has_document}
+use Rattle.sm_rest.specs.rest_heads.BodyParts.{is_tree_at, part_of, payload_among, payload_of, payload_or, payload_part, rest_use, use_by}
+use Rattle.sm_rest.specs.rest_heads.declared.bodies.BodyPart.{BodyPart}
+use Rattle.sm_rest.specs.rest_heads.declared.bodies.BodyPart.TheVariants.{Document, Nothing, Raw, Tree}
 use Rattle.sm_rest_read.specs.steps.Contents.{is_document}
 
 -- what stands in a body doesn't hang on the literals of a pattern

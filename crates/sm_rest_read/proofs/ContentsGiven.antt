@@ -27,13 +27,13 @@ use Rattle.sm_codec.specs.declared.frames.Outcome.{Outcome}
 use Rattle.sm_codec.proofs.KeptOn as kept
 use Rattle.sm_codec.proofs.ReadValues.{one_value}
 use Rattle.sm_bodies.specs.Fed.{BodyFed}
-use Rattle.sm_messages.specs.MessageForm.{BodyUse, HasContent, a_tree, as_text}
-use Rattle.sm_messages.specs.declared.refusal.MessageRefusal.{MessageRefusal}
-use Rattle.sm_messages.specs.declared.refusal.MessageRefusal.TheVariants as refused
-use Rattle.sm_bind.specs.Roles.{Bound, has_document}
-use Rattle.sm_bind_read.specs.Outcomes.{IsTreeOf}
-use Rattle.sm_bind_read.specs.declared.body.PartBody.{PartBody}
-use Rattle.sm_bind_read.specs.declared.body.PartBody.TheVariants.{Empty, Tree}
+use Rattle.sm_rest.specs.messages.MessageForm.{BodyUse, HasContent, a_tree, as_text}
+use Rattle.sm_rest.specs.messages.declared.refusal.MessageRefusal.{MessageRefusal}
+use Rattle.sm_rest.specs.messages.declared.refusal.MessageRefusal.TheVariants as refused
+use Rattle.sm_rest.specs.bind.Roles.{Bound, has_document}
+use Rattle.sm_rest.specs.bind_read.Outcomes.{IsTreeOf}
+use Rattle.sm_rest.specs.bind_read.declared.body.PartBody.{PartBody}
+use Rattle.sm_rest.specs.bind_read.declared.body.PartBody.TheVariants.{Empty, Tree}
 use Rattle.sm_rest_read.specs.steps.Contents.{GivesContent, GivesTree}
 use Rattle.sm_rest_read.proofs.NullBodies.{absent_is}
 

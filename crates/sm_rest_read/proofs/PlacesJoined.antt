@@ -7,20 +7,20 @@ use Rattle.sm_shapes.specs.TableData.{TableData, shape_count}
 use Rattle.sm_shapes.specs.declared.values.Value.{Value}
 use Rattle.sm_codec.specs.CodecLaws.{IsCodec}
 use Rattle.sm_codec.proofs.JsonLaws.{json_laws}
-use Rattle.sm_service.specs.HttpServable.{HttpServable}
-use Rattle.sm_service.specs.Servable.{Servable}
-use Rattle.sm_service.specs.ServiceData.{ServiceData}
-use Rattle.sm_messages.specs.Goals.{Goal, HasGoal}
-use Rattle.sm_messages.specs.HeadAnswers.{to_goal}
-use Rattle.sm_messages.specs.IsForm.{ServesGoal}
-use Rattle.sm_messages.specs.declared.refusal.MessageRefusal.{MessageRefusal}
-use Rattle.sm_messages.proofs.TreeBodies.{goal_structure}
-use Rattle.sm_bind.specs.BindingsView.{AreBindingsOf, BindingsData, body_at}
-use Rattle.sm_bind.specs.PartsData.{PartsData}
-use Rattle.sm_bind.specs.Roles.{Bound}
-use Rattle.sm_bind_read.specs.BoundGoals.{bound_at, goal_body}
-use Rattle.sm_rest_heads.specs.BodyParts.{part_of}
-use Rattle.sm_rest_heads.specs.declared.bodies.BodyPart.TheVariants.{Nothing}
+use Rattle.sm_rest.specs.service.HttpServable.{HttpServable}
+use Rattle.sm_rest.specs.service.Servable.{Servable}
+use Rattle.sm_rest.specs.service.ServiceData.{ServiceData}
+use Rattle.sm_rest.specs.messages.Goals.{Goal, HasGoal}
+use Rattle.sm_rest.specs.messages.HeadAnswers.{to_goal}
+use Rattle.sm_rest.specs.messages.IsForm.{ServesGoal}
+use Rattle.sm_rest.specs.messages.declared.refusal.MessageRefusal.{MessageRefusal}
+use Rattle.sm_rest.proofs.messages.TreeBodies.{goal_structure}
+use Rattle.sm_rest.specs.bind.BindingsView.{AreBindingsOf, BindingsData, body_at}
+use Rattle.sm_rest.specs.bind.PartsData.{PartsData}
+use Rattle.sm_rest.specs.bind.Roles.{Bound}
+use Rattle.sm_rest.specs.bind_read.BoundGoals.{bound_at, goal_body}
+use Rattle.sm_rest.specs.rest_heads.BodyParts.{part_of}
+use Rattle.sm_rest.specs.rest_heads.declared.bodies.BodyPart.TheVariants.{Nothing}
 use Rattle.sm_rest.specs.RestForm.{rest_form}
 use Rattle.sm_rest.proofs.GoalsServed.{goal_parts, goal_targets}
 use Rattle.sm_rest_read.specs.Begun.{IsUnread, bindings_codec}

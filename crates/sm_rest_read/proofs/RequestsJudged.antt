@@ -3,10 +3,10 @@ use Rattle.std.proofs.Common.{◌≡◌, ℕ, Bool, true, false, List, None, Som
 use Rattle.std.specs.Prelude.{Option}
 use Rattle.sm_compile.specs.declared.compiled.Served.{Served}
 use Rattle.sm_http.specs.declared.message.Head.{Head}
-use Rattle.sm_service.specs.ServiceData.{OperationData, ServiceData}
-use Rattle.sm_messages.specs.Goals.{goal_of, operation_at, the_input}
-use Rattle.sm_messages.specs.HeadAnswers.{HeadAnswer, addressed, is_request_type, not_served, path_unserved, refused_at_head, request_answer}
-use Rattle.sm_messages.specs.HeadAnswers.{served_answer, to_goal, typed_answer, unserved, wrong_media_type}
+use Rattle.sm_rest.specs.service.ServiceData.{OperationData, ServiceData}
+use Rattle.sm_rest.specs.messages.Goals.{goal_of, operation_at, the_input}
+use Rattle.sm_rest.specs.messages.HeadAnswers.{HeadAnswer, addressed, is_request_type, not_served, path_unserved, refused_at_head, request_answer}
+use Rattle.sm_rest.specs.messages.HeadAnswers.{served_answer, to_goal, typed_answer, unserved, wrong_media_type}
 use Rattle.sm_rest.specs.RestForm.{rest_form}
 
 -- why an operation isn't served

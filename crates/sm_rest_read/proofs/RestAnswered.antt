@@ -13,28 +13,28 @@ use Rattle.sm_codec.specs.FaultLists.{faults_in}
 use Rattle.sm_http.specs.declared.message.Head.{Head}
 use Rattle.sm_http.specs.declared.message.Start.{Start}
 use Rattle.sm_http.specs.declared.message.Start.TheVariants.{Request, Response}
-use Rattle.sm_service.specs.ServiceData.{ServiceData}
-use Rattle.sm_messages.specs.Answers.{AnswersResponse, RefusedAs, reply_role, reply_val}
-use Rattle.sm_messages.specs.Goals.{Asked, Goal, HasRole, Role, a_request, a_response, goal_of, is_input, operation_at, the_error, the_input}
-use Rattle.sm_messages.specs.Goals.{the_output}
-use Rattle.sm_messages.specs.HeadAnswers.{Address, IsJudged, addressed, error_answer, refused_at_head, response_answer, to_goal, to_named_error}
-use Rattle.sm_messages.specs.HeadAnswers.{wrong_media_type}
-use Rattle.sm_messages.specs.Heads.{is_empty, is_plain, is_success}
-use Rattle.sm_messages.specs.MessageAnswers.{MessageAnswer, MessageAnswers, fault, no_name, no_text, the_refusal, the_value, use_of, value}
-use Rattle.sm_messages.specs.MessageForm.{Content, HasContent, a_tree, as_empty_object, as_text, naming, unread}
-use Rattle.sm_messages.specs.Messages.{LeadsTo, error_of_tree}
-use Rattle.sm_messages.specs.Names.{told_by_body, told_by_head}
-use Rattle.sm_messages.specs.TreeAnswers.{AnswersGoal, syntax_refusal}
-use Rattle.sm_messages.specs.declared.refusal.MessageRefusal.{MessageRefusal}
-use Rattle.sm_messages.specs.declared.refusal.MessageRefusal.TheVariants as refused
-use Rattle.sm_messages.specs.declared.reply.Reply.{Reply}
-use Rattle.sm_messages.specs.declared.reply.Reply.TheVariants.{Error, Output}
-use Rattle.sm_messages.proofs.HeadsJudged.{AddressOf, goal_of_response, told_within}
-use Rattle.sm_bind_read.specs.BoundGoals.{bound_at}
-use Rattle.sm_bind_read.specs.PartFaults.{parts_reading}
-use Rattle.sm_rest_heads.specs.BodyParts.{part_of, rest_use, use_by}
-use Rattle.sm_rest_heads.specs.RestParts.{head_parts, kept_head, status_in}
-use Rattle.sm_rest_heads.specs.declared.bodies.BodyPart.TheVariants.{Nothing}
+use Rattle.sm_rest.specs.service.ServiceData.{ServiceData}
+use Rattle.sm_rest.specs.messages.Answers.{AnswersResponse, RefusedAs, reply_role, reply_val}
+use Rattle.sm_rest.specs.messages.Goals.{Asked, Goal, HasRole, Role, a_request, a_response, goal_of, is_input, operation_at, the_error, the_input}
+use Rattle.sm_rest.specs.messages.Goals.{the_output}
+use Rattle.sm_rest.specs.messages.HeadAnswers.{Address, IsJudged, addressed, error_answer, refused_at_head, response_answer, to_goal, to_named_error}
+use Rattle.sm_rest.specs.messages.HeadAnswers.{wrong_media_type}
+use Rattle.sm_rest.specs.messages.Heads.{is_empty, is_plain, is_success}
+use Rattle.sm_rest.specs.messages.MessageAnswers.{MessageAnswer, MessageAnswers, fault, no_name, no_text, the_refusal, the_value, use_of, value}
+use Rattle.sm_rest.specs.messages.MessageForm.{Content, HasContent, a_tree, as_empty_object, as_text, naming, unread}
+use Rattle.sm_rest.specs.messages.Messages.{LeadsTo, error_of_tree}
+use Rattle.sm_rest.specs.messages.Names.{told_by_body, told_by_head}
+use Rattle.sm_rest.specs.messages.TreeAnswers.{AnswersGoal, syntax_refusal}
+use Rattle.sm_rest.specs.messages.declared.refusal.MessageRefusal.{MessageRefusal}
+use Rattle.sm_rest.specs.messages.declared.refusal.MessageRefusal.TheVariants as refused
+use Rattle.sm_rest.specs.messages.declared.reply.Reply.{Reply}
+use Rattle.sm_rest.specs.messages.declared.reply.Reply.TheVariants.{Error, Output}
+use Rattle.sm_rest.proofs.messages.HeadsJudged.{AddressOf, goal_of_response, told_within}
+use Rattle.sm_rest.specs.bind_read.BoundGoals.{bound_at}
+use Rattle.sm_rest.specs.bind_read.PartFaults.{parts_reading}
+use Rattle.sm_rest.specs.rest_heads.BodyParts.{part_of, rest_use, use_by}
+use Rattle.sm_rest.specs.rest_heads.RestParts.{head_parts, kept_head, status_in}
+use Rattle.sm_rest.specs.rest_heads.declared.bodies.BodyPart.TheVariants.{Nothing}
 use Rattle.sm_rest.specs.RestForm.{rest_form}
 use Rattle.sm_rest_read.specs.Begun.{IsUnread, KeepsBytes}
 use Rattle.sm_rest_read.specs.steps.Contents.{JoinsAt, NamesPlace, ReplyJoins, TellsNone, value_in}

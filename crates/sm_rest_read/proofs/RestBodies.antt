@@ -18,29 +18,29 @@ use Rattle.sm_codec.specs.declared.decoder.Decoder.{Decoder}
 use Rattle.sm_bodies.proofs.BodiesFed.{held_few, held_shallow}
 use Rattle.sm_http.specs.declared.message.Head.{Head}
 use Rattle.sm_http.specs.declared.message.Message.{Message}
-use Rattle.sm_service.specs.ServiceData.{ServiceData}
-use Rattle.sm_messages.specs.Answers.{AnswersRequest, AnswersResponse, AtHead, RefusedAs}
-use Rattle.sm_messages.specs.Begun.{operation_of}
-use Rattle.sm_messages.specs.Goals.{Asked, a_request, a_response, goal_of, the_input, the_output}
-use Rattle.sm_messages.specs.HeadAnswers.{Address, HeadAnswer, IsJudged, IsNamed, addressed, of_request, of_response, refused_at_head}
-use Rattle.sm_messages.specs.HeadAnswers.{request_answer, response_answer, to_goal, to_named_error}
-use Rattle.sm_messages.specs.Heads.{is_empty}
-use Rattle.sm_messages.specs.IsForm.{ServesOperation}
-use Rattle.sm_messages.specs.Judging.{IsOperationNumber, told_answer}
-use Rattle.sm_messages.specs.Laws.{MayAsk}
-use Rattle.sm_messages.specs.MessageAnswers.{MessageAnswers, Refusal, at_head, by_fault, by_head, by_syntax, the_refusal}
-use Rattle.sm_messages.specs.Names.{told_by_head}
-use Rattle.sm_messages.specs.Pieces.{BeginsAs, IsLive, MayTake, UnlessMemory, frames_in, nodes_in, number_in}
-use Rattle.sm_messages.specs.TreeAnswers.{AnswersGoal}
-use Rattle.sm_messages.specs.declared.refusal.MessageRefusal.{MessageRefusal}
-use Rattle.sm_messages.specs.declared.reply.Reply.{Reply}
-use Rattle.sm_messages.proofs.HeadsJudged.{AddressOf, judged_address, response_of}
-use Rattle.sm_messages.proofs.TreeAnswered.{goal_more, out_of_memory, refused_more, request_more, response_more}
-use Rattle.sm_bind.specs.BindingsView.{bindings_data, parts_data}
-use Rattle.sm_bind.specs.declared.parts.Parts.{Parts}
-use Rattle.sm_bind_read.specs.BoundGoals.{bound_at, goal_body}
-use Rattle.sm_rest_heads.specs.RestParts.{head_parts, kept_head}
-use Rattle.sm_rest_heads.proofs.RoutesAsked.{asked_for, for_within}
+use Rattle.sm_rest.specs.service.ServiceData.{ServiceData}
+use Rattle.sm_rest.specs.messages.Answers.{AnswersRequest, AnswersResponse, AtHead, RefusedAs}
+use Rattle.sm_rest.specs.messages.Begun.{operation_of}
+use Rattle.sm_rest.specs.messages.Goals.{Asked, a_request, a_response, goal_of, the_input, the_output}
+use Rattle.sm_rest.specs.messages.HeadAnswers.{Address, HeadAnswer, IsJudged, IsNamed, addressed, of_request, of_response, refused_at_head}
+use Rattle.sm_rest.specs.messages.HeadAnswers.{request_answer, response_answer, to_goal, to_named_error}
+use Rattle.sm_rest.specs.messages.Heads.{is_empty}
+use Rattle.sm_rest.specs.messages.IsForm.{ServesOperation}
+use Rattle.sm_rest.specs.messages.Judging.{IsOperationNumber, told_answer}
+use Rattle.sm_rest.specs.messages.Laws.{MayAsk}
+use Rattle.sm_rest.specs.messages.MessageAnswers.{MessageAnswers, Refusal, at_head, by_fault, by_head, by_syntax, the_refusal}
+use Rattle.sm_rest.specs.messages.Names.{told_by_head}
+use Rattle.sm_rest.specs.messages.Pieces.{BeginsAs, IsLive, MayTake, UnlessMemory, frames_in, nodes_in, number_in}
+use Rattle.sm_rest.specs.messages.TreeAnswers.{AnswersGoal}
+use Rattle.sm_rest.specs.messages.declared.refusal.MessageRefusal.{MessageRefusal}
+use Rattle.sm_rest.specs.messages.declared.reply.Reply.{Reply}
+use Rattle.sm_rest.proofs.messages.HeadsJudged.{AddressOf, judged_address, response_of}
+use Rattle.sm_rest.proofs.messages.TreeAnswered.{goal_more, out_of_memory, refused_more, request_more, response_more}
+use Rattle.sm_rest.specs.bind.BindingsView.{bindings_data, parts_data}
+use Rattle.sm_rest.specs.bind.declared.parts.Parts.{Parts}
+use Rattle.sm_rest.specs.bind_read.BoundGoals.{bound_at, goal_body}
+use Rattle.sm_rest.specs.rest_heads.RestParts.{head_parts, kept_head}
+use Rattle.sm_rest.proofs.rest_heads.RoutesAsked.{asked_for, for_within}
 use Rattle.sm_rest.specs.RestForm.{rest_form}
 use Rattle.sm_rest.specs.RestOf.{IsRestOf}
 use Rattle.sm_rest.specs.declared.context.Rest.{Rest}

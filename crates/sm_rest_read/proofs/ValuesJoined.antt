@@ -15,22 +15,22 @@ use Rattle.sm_codec.specs.Conventions.{json_convention}
 use Rattle.sm_codec.specs.declared.decoder.Decoder.{Decoder}
 use Rattle.sm_codec.specs.declared.decoder.Refusal.TheVariants as codec
 use Rattle.sm_bodies.specs.Fed.{BodyFed}
-use Rattle.sm_messages.specs.Heads.{is_empty}
-use Rattle.sm_messages.specs.MessageForm.{BodyUse, Content, HasContent, a_tree, as_text, nothing, raw_bytes}
-use Rattle.sm_messages.specs.declared.refusal.MessageRefusal.{MessageRefusal}
-use Rattle.sm_messages.specs.declared.refusal.MessageRefusal.TheVariants as refused
+use Rattle.sm_rest.specs.messages.Heads.{is_empty}
+use Rattle.sm_rest.specs.messages.MessageForm.{BodyUse, Content, HasContent, a_tree, as_text, nothing, raw_bytes}
+use Rattle.sm_rest.specs.messages.declared.refusal.MessageRefusal.{MessageRefusal}
+use Rattle.sm_rest.specs.messages.declared.refusal.MessageRefusal.TheVariants as refused
 use Rattle.sm_part_values.specs.Joins.{JoinsTo}
-use Rattle.sm_bind.specs.BindingsView.{BindingsData, body_at}
-use Rattle.sm_bind.specs.PartsData.{PartsData}
-use Rattle.sm_bind.specs.Roles.{Bound, has_document}
-use Rattle.sm_bind_read.specs.Outcomes.{IsTreeOf, StandsForContent}
-use Rattle.sm_bind_read.specs.PartFaults.{parts_reading}
-use Rattle.sm_bind_read.specs.declared.body.PartBody.{PartBody}
-use Rattle.sm_bind_read.specs.declared.body.PartBody.TheVariants as body
-use Rattle.sm_bind_read.specs.declared.body.PartBody.TheVariants.{Empty}
-use Rattle.sm_rest_heads.specs.BodyParts.{part_of, rest_use, use_by}
-use Rattle.sm_rest_heads.specs.declared.bodies.BodyPart.{BodyPart}
-use Rattle.sm_rest_heads.specs.declared.bodies.BodyPart.TheVariants.{Document, Nothing, Raw, Tree}
+use Rattle.sm_rest.specs.bind.BindingsView.{BindingsData, body_at}
+use Rattle.sm_rest.specs.bind.PartsData.{PartsData}
+use Rattle.sm_rest.specs.bind.Roles.{Bound, has_document}
+use Rattle.sm_rest.specs.bind_read.Outcomes.{IsTreeOf, StandsForContent}
+use Rattle.sm_rest.specs.bind_read.PartFaults.{parts_reading}
+use Rattle.sm_rest.specs.bind_read.declared.body.PartBody.{PartBody}
+use Rattle.sm_rest.specs.bind_read.declared.body.PartBody.TheVariants as body
+use Rattle.sm_rest.specs.bind_read.declared.body.PartBody.TheVariants.{Empty}
+use Rattle.sm_rest.specs.rest_heads.BodyParts.{part_of, rest_use, use_by}
+use Rattle.sm_rest.specs.rest_heads.declared.bodies.BodyPart.{BodyPart}
+use Rattle.sm_rest.specs.rest_heads.declared.bodies.BodyPart.TheVariants.{Document, Nothing, Raw, Tree}
 use Rattle.sm_rest_read.specs.Begun.{bindings_codec}
 use Rattle.sm_rest_read.specs.steps.Contents.{BodyJoins, GivesContent, GivesTree, is_document}
 use Rattle.sm_rest_read.specs.steps.Places.{IsJoinable}

@@ -11,18 +11,18 @@ use Rattle.sm_codec.specs.declared.decoder.Decoder.{Decoder}
 use Rattle.sm_bodies.specs.Fed.{BodyFed}
 use Rattle.sm_http.specs.declared.message.Head.{Head}
 use Rattle.sm_http.specs.declared.message.Message.{Message}
-use Rattle.sm_service.specs.ServiceData.{ServiceData}
-use Rattle.sm_messages.specs.Begun.{BodyState, failed, fed, held, operation_of}
-use Rattle.sm_messages.specs.Goals.{Asked, Role, a_request, a_response, goal_of, the_input, the_output}
-use Rattle.sm_messages.specs.HeadAnswers.{Address, IsJudged, addressed, to_goal, to_named_error}
-use Rattle.sm_messages.specs.Laws.{MayAsk}
-use Rattle.sm_messages.specs.Pieces.{FeedsOn}
-use Rattle.sm_bind.specs.BindingsView.{BindingsData, bindings_data, parts_data}
-use Rattle.sm_bind.specs.declared.parts.Parts.{Parts}
-use Rattle.sm_bind_read.specs.BoundGoals.{bound_at, goal_body}
-use Rattle.sm_rest_heads.specs.BodyParts.{part_of}
-use Rattle.sm_rest_heads.specs.RestParts.{head_parts, kept_head}
-use Rattle.sm_rest_heads.specs.declared.bodies.BodyPart.TheVariants.{Nothing}
+use Rattle.sm_rest.specs.service.ServiceData.{ServiceData}
+use Rattle.sm_rest.specs.messages.Begun.{BodyState, failed, fed, held, operation_of}
+use Rattle.sm_rest.specs.messages.Goals.{Asked, Role, a_request, a_response, goal_of, the_input, the_output}
+use Rattle.sm_rest.specs.messages.HeadAnswers.{Address, IsJudged, addressed, to_goal, to_named_error}
+use Rattle.sm_rest.specs.messages.Laws.{MayAsk}
+use Rattle.sm_rest.specs.messages.Pieces.{FeedsOn}
+use Rattle.sm_rest.specs.bind.BindingsView.{BindingsData, bindings_data, parts_data}
+use Rattle.sm_rest.specs.bind.declared.parts.Parts.{Parts}
+use Rattle.sm_rest.specs.bind_read.BoundGoals.{bound_at, goal_body}
+use Rattle.sm_rest.specs.rest_heads.BodyParts.{part_of}
+use Rattle.sm_rest.specs.rest_heads.RestParts.{head_parts, kept_head}
+use Rattle.sm_rest.specs.rest_heads.declared.bodies.BodyPart.TheVariants.{Nothing}
 use Rattle.sm_rest.specs.RestForm.{rest_form}
 use Rattle.sm_rest.specs.declared.context.Rest.{Rest}
 use Rattle.sm_rest_read.specs.declared.body.RestBody.{RestBody}

@@ -1,16 +1,16 @@
 // What the head of a request comes to before its body is read.
 ghost use Rattle.std.specs.Prelude.{◌≡◌, ◌<◌, IfOk, Some, length};
-ghost use Rattle.sm_service.specs.Servable.{Servable};
-ghost use Rattle.sm_service.specs.ServiceView.{service_data};
-ghost use Rattle.sm_messages.specs.HeadAnswers.{is_request_type, request_answer, unserved};
-ghost use Rattle.sm_messages.specs.Judging.{IsOperationNumber, JudgesRequest};
+ghost use Rattle.sm_rest.specs.service.Servable.{Servable};
+ghost use Rattle.sm_rest.specs.service.ServiceView.{service_data};
+ghost use Rattle.sm_rest.specs.messages.HeadAnswers.{is_request_type, request_answer, unserved};
+ghost use Rattle.sm_rest.specs.messages.Judging.{IsOperationNumber, JudgesRequest};
 ghost use Rattle.sm_rest.specs.RestForm.{rest_form};
 
 use crate::places::{input_place, part_at};
 use sm_http::Head;
-use sm_messages::{MessageRefusal, is_plain, is_right_type, operation_at};
 use sm_rest::Rest;
-use sm_service::{OperationServed, Service};
+use sm_rest::sm_messages::{MessageRefusal, is_plain, is_right_type, operation_at};
+use sm_rest::sm_service::{OperationServed, Service};
 use sm_tree::{NoMemory, Text};
 use std::alloc::Global;
 

@@ -2,16 +2,16 @@
 ghost use Rattle.std.specs.Prelude.{◌≡◌, ◌<◌, length};
 ghost use Rattle.std.specs.Option.{option_map};
 ghost use Rattle.sm_tree.specs.View.{node_of};
-ghost use Rattle.sm_service.specs.Servable.{Servable};
-ghost use Rattle.sm_service.specs.ServiceView.{service_data};
-ghost use Rattle.sm_messages.specs.Messages.{error_of_tree, place_told};
+ghost use Rattle.sm_rest.specs.service.Servable.{Servable};
+ghost use Rattle.sm_rest.specs.service.ServiceView.{service_data};
+ghost use Rattle.sm_rest.specs.messages.Messages.{error_of_tree, place_told};
 ghost use Rattle.sm_rest.specs.RestForm.{rest_form};
 ghost use Rattle.sm_rest_read.specs.steps.Contents.{NamesPlace};
 
-use sm_messages::{
+use sm_rest::sm_messages::{
     MessageRefusal, error_told, is_empty, operation_at, syntax_refused, told_by_body,
 };
-use sm_service::Service;
+use sm_rest::sm_service::Service;
 use sm_tree::Tree;
 use std::alloc::Global;
 

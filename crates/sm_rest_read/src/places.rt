@@ -2,17 +2,17 @@
 ghost use Rattle.std.specs.Prelude.{◌≡◌, ◌<◌, ◌↔◌, IsTrue, length, map};
 ghost use Rattle.std.specs.Option.{option_map};
 ghost use Rattle.sm_shapes.specs.TableData.{shape_count};
-ghost use Rattle.sm_service.specs.ServiceView.{http_data, service_data};
-ghost use Rattle.sm_messages.specs.Goals.{HasGoal, goal_of, the_error, the_input, the_output};
-ghost use Rattle.sm_bind.specs.BoundView.{bound_of};
-ghost use Rattle.sm_bind_read.specs.BoundGoals.{bound_at, literal_keys};
-ghost use Rattle.sm_rest_heads.specs.BodyParts.{part_of};
-ghost use Rattle.sm_rest_heads.specs.declared.bodies.BodyPart.TheVariants.{Nothing};
+ghost use Rattle.sm_rest.specs.service.ServiceView.{http_data, service_data};
+ghost use Rattle.sm_rest.specs.messages.Goals.{HasGoal, goal_of, the_error, the_input, the_output};
+ghost use Rattle.sm_rest.specs.bind.BoundView.{bound_of};
+ghost use Rattle.sm_rest.specs.bind_read.BoundGoals.{bound_at, literal_keys};
+ghost use Rattle.sm_rest.specs.rest_heads.BodyParts.{part_of};
+ghost use Rattle.sm_rest.specs.rest_heads.declared.bodies.BodyPart.TheVariants.{Nothing};
 
-use sm_bind::{BoundPlace, PartSide};
-use sm_messages::{error_at, input_shape, operation_at, output_shape};
-use sm_rest_heads::{BodyPart, body_part};
-use sm_service::{HttpRule, Service};
+use sm_rest::sm_bind::{BoundPlace, PartSide};
+use sm_rest::sm_messages::{error_at, input_shape, operation_at, output_shape};
+use sm_rest::sm_rest_heads::{BodyPart, body_part};
+use sm_rest::sm_service::{HttpRule, Service};
 use sm_tree::Text;
 
 // The literals of the pattern's query.

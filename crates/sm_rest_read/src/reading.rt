@@ -1,20 +1,20 @@
 // Whole messages.
 ghost use Rattle.std.specs.Prelude.{◌≡◌};
 ghost use Rattle.sm_shapes.specs.InOrder.{AreStored, DefaultsPass};
-ghost use Rattle.sm_service.specs.Servable.{Servable};
-ghost use Rattle.sm_service.specs.ServiceView.{service_data};
-ghost use Rattle.sm_messages.specs.Answers.{AnswersRequest, AnswersResponse};
-ghost use Rattle.sm_messages.specs.Goals.{a_request, a_response};
-ghost use Rattle.sm_messages.specs.IsForm.{ServesOperation};
-ghost use Rattle.sm_messages.specs.MessageAnswers.{MessageAnswers};
+ghost use Rattle.sm_rest.specs.service.Servable.{Servable};
+ghost use Rattle.sm_rest.specs.service.ServiceView.{service_data};
+ghost use Rattle.sm_rest.specs.messages.Answers.{AnswersRequest, AnswersResponse};
+ghost use Rattle.sm_rest.specs.messages.Goals.{a_request, a_response};
+ghost use Rattle.sm_rest.specs.messages.IsForm.{ServesOperation};
+ghost use Rattle.sm_rest.specs.messages.MessageAnswers.{MessageAnswers};
 ghost use Rattle.sm_rest.specs.RestForm.{rest_form};
 ghost use Rattle.sm_rest.specs.RestOf.{IsRestOf};
 
 use crate::beginning::{begin_request, begin_response};
 use sm_http::Message;
-use sm_messages::{MessageRefusal, Reply, is_empty};
 use sm_rest::Rest;
-use sm_service::Service;
+use sm_rest::sm_messages::{MessageRefusal, Reply, is_empty};
+use sm_rest::sm_service::Service;
 use sm_shapes::Patterns;
 use sm_shapes::values::Value;
 use std::alloc::Global;

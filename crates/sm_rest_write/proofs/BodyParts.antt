@@ -1,9 +1,9 @@
 -- What stands in a body doesn't hang on the literals of a pattern.
 use Rattle.std.proofs.Common.{◌≡◌, ℕ, cond, List, [], ◌∷◌, refl, ap, ◌∙◌}
 use Rattle.std.specs.Prelude.{Option, None, Some}
-use Rattle.sm_bind.specs.Roles.{Bound, binding_on, bound_members, bound_on, has_document}
-use Rattle.sm_rest_heads.specs.BodyParts.{part_of, payload_among, payload_of, payload_or, payload_part}
-use Rattle.sm_rest_heads.specs.declared.bodies.BodyPart.TheVariants.{Document}
+use Rattle.sm_rest.specs.bind.Roles.{Bound, binding_on, bound_members, bound_on, has_document}
+use Rattle.sm_rest.specs.rest_heads.BodyParts.{part_of, payload_among, payload_of, payload_or, payload_part}
+use Rattle.sm_rest.specs.rest_heads.declared.bodies.BodyPart.TheVariants.{Document}
 
 among_same : (b : Bound) (ks : List ℕ) → payload_among (bound_on b.table b.side b.shape) ks ≡ payload_among b ks
 among_same b [] = refl

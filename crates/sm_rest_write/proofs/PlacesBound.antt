@@ -6,14 +6,14 @@ use Rattle.sm_shapes.specs.Places.{root_place}
 use Rattle.sm_shapes.specs.TableData.{kind_at, shape_count}
 use Rattle.sm_shapes.specs.Values.{Val}
 use Rattle.sm_shapes.specs.declared.kinds.ShapeKind.TheVariants.{Structure}
-use Rattle.sm_service.specs.Servable.{Servable}
-use Rattle.sm_service.specs.ServiceData.{ServiceData}
-use Rattle.sm_messages.specs.Goals.{Goal, HasGoal}
-use Rattle.sm_messages.specs.TreeBodies.{goal_place}
-use Rattle.sm_messages.proofs.TreeBodies.{goal_structure}
-use Rattle.sm_bind.specs.Roles.{Bound}
-use Rattle.sm_bind_read.specs.BoundGoals.{bound_at}
-use Rattle.sm_bind_write.specs.CarriedParts.{uncarried_parts}
+use Rattle.sm_rest.specs.service.Servable.{Servable}
+use Rattle.sm_rest.specs.service.ServiceData.{ServiceData}
+use Rattle.sm_rest.specs.messages.Goals.{Goal, HasGoal}
+use Rattle.sm_rest.specs.messages.TreeBodies.{goal_place}
+use Rattle.sm_rest.proofs.messages.TreeBodies.{goal_structure}
+use Rattle.sm_rest.specs.bind.Roles.{Bound}
+use Rattle.sm_rest.specs.bind_read.BoundGoals.{bound_at}
+use Rattle.sm_rest.specs.bind_write.CarriedParts.{uncarried_parts}
 
 pub shaped_there : (s : ServiceData) (g : Goal) (b : Bound) → b ≡ bound_at s g → Servable s → Shaped b.table
 shaped_there s g b e servable = subst (λ a. Shaped a.table) (sym e) servable.shaped

@@ -4,17 +4,17 @@ use Rattle.std.specs.Prelude.{Option, Some}
 use Rattle.sm_http.specs.declared.message.Field.{Field}
 use Rattle.sm_http.specs.declared.message.Message.{Message}
 use Rattle.sm_shapes.specs.Values.{Val}
-use Rattle.sm_service.specs.ServiceData.{HttpData, ServiceData}
-use Rattle.sm_messages.specs.Answers.{reply_role, reply_val}
-use Rattle.sm_messages.specs.Goals.{goal_of, the_input}
-use Rattle.sm_messages.specs.WrittenHeads.{written_response}
-use Rattle.sm_messages.specs.declared.reply.Reply.{Reply}
-use Rattle.sm_messages.specs.declared.reply.Reply.TheVariants.{Error, Output}
-use Rattle.sm_bind.specs.PartsData.{PartsData}
-use Rattle.sm_bind.specs.Roles.{Bound}
-use Rattle.sm_bind_bodies.specs.WrittenBodies.{content_bytes}
-use Rattle.sm_bind_read.specs.BoundGoals.{bound_at}
-use Rattle.sm_bind_write.specs.WrittenParts.{written_content, written_parts}
+use Rattle.sm_rest.specs.service.ServiceData.{HttpData, ServiceData}
+use Rattle.sm_rest.specs.messages.Answers.{reply_role, reply_val}
+use Rattle.sm_rest.specs.messages.Goals.{goal_of, the_input}
+use Rattle.sm_rest.specs.messages.WrittenHeads.{written_response}
+use Rattle.sm_rest.specs.messages.declared.reply.Reply.{Reply}
+use Rattle.sm_rest.specs.messages.declared.reply.Reply.TheVariants.{Error, Output}
+use Rattle.sm_rest.specs.bind.PartsData.{PartsData}
+use Rattle.sm_rest.specs.bind.Roles.{Bound}
+use Rattle.sm_rest.specs.bind_bodies.WrittenBodies.{content_bytes}
+use Rattle.sm_rest.specs.bind_read.BoundGoals.{bound_at}
+use Rattle.sm_rest.specs.bind_write.WrittenParts.{written_content, written_parts}
 use Rattle.sm_rest.specs.RestGoals.{rule_at, usual_status, written_type}
 use Rattle.sm_rest.specs.WrittenRest.{goal_bytes, goal_parts, request_by, rest_written, told_fields}
 use Rattle.sm_rest_write.specs.steps.Bodies.{bytes_of}

@@ -4,17 +4,17 @@ ghost use Rattle.std.specs.Prelude.{◌≡◌, ◌<◌, ◌↔◌, [], IfOk, IsT
 ghost use Rattle.sm_shapes.specs.Fitting.{Fits, any_text};
 ghost use Rattle.sm_shapes.specs.ValueView.{val_of};
 ghost use Rattle.sm_codec.specs.Encoded.{first_path};
-ghost use Rattle.sm_service.specs.Servable.{Servable};
-ghost use Rattle.sm_service.specs.ServiceView.{service_data};
-ghost use Rattle.sm_messages.specs.Answers.{reply_role, reply_val};
-ghost use Rattle.sm_messages.specs.Goals.{HasGoal, goal_of, the_input};
-ghost use Rattle.sm_messages.specs.TreeBodies.{goal_place};
+ghost use Rattle.sm_rest.specs.service.Servable.{Servable};
+ghost use Rattle.sm_rest.specs.service.ServiceView.{service_data};
+ghost use Rattle.sm_rest.specs.messages.Answers.{reply_role, reply_val};
+ghost use Rattle.sm_rest.specs.messages.Goals.{HasGoal, goal_of, the_input};
+ghost use Rattle.sm_rest.specs.messages.TreeBodies.{goal_place};
 ghost use Rattle.sm_rest.specs.RestForm.{rest_form};
 
 use crate::places::{input_place, reply_place, value_in};
-use sm_bind_write::{is_carried, not_carried};
-use sm_messages::Reply;
-use sm_service::Service;
+use sm_rest::sm_bind_write::{is_carried, not_carried};
+use sm_rest::sm_messages::Reply;
+use sm_rest::sm_service::Service;
 use sm_shapes::values::Value;
 use sm_tree::{NoMemory, Path};
 use std::alloc::Global;

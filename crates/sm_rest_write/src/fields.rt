@@ -1,11 +1,11 @@
 // The fields of messages: the one that tells an error, and bound ones.
 ghost use Rattle.std.specs.Prelude.{◌≡◌, ◌++◌, ◌∷◌, IfOk, OnOk, codes};
 ghost use Rattle.std.specs.Option.{option_map};
-ghost use Rattle.sm_messages.specs.WrittenHeads.{field_of, fields_given, type_fields};
+ghost use Rattle.sm_rest.specs.messages.WrittenHeads.{field_of, fields_given, type_fields};
 ghost use Rattle.sm_rest_write.specs.steps.ToldFields.{fields_telling};
 
 use sm_http::Field;
-use sm_messages::{request_fields, response_fields, written_field};
+use sm_rest::sm_messages::{request_fields, response_fields, written_field};
 use sm_tree::NoMemory;
 use std::alloc::Global;
 

@@ -6,14 +6,14 @@ ghost use Rattle.sm_shapes.specs.Places.{root_place};
 ghost use Rattle.sm_shapes.specs.TableData.{kind_at, shape_count};
 ghost use Rattle.sm_shapes.specs.ValueView.{val_of};
 ghost use Rattle.sm_shapes.specs.declared.kinds.ShapeKind.TheVariants.{Structure};
-ghost use Rattle.sm_bind.specs.BoundView.{bound_of};
-ghost use Rattle.sm_bind_write.specs.CarriedParts.{uncarried_parts};
+ghost use Rattle.sm_rest.specs.bind.BoundView.{bound_of};
+ghost use Rattle.sm_rest.specs.bind_write.CarriedParts.{uncarried_parts};
 ghost use Rattle.sm_rest_write.specs.steps.Outlines.{IsOutlineOf};
 
 use crate::body::BodyBytes;
 use crate::types::body_type;
-use sm_bind::{BoundPlace, Parts};
-use sm_bind_write::split;
+use sm_rest::sm_bind::{BoundPlace, Parts};
+use sm_rest::sm_bind_write::split;
 use sm_shapes::values::Value;
 use sm_tree::NoMemory;
 use std::alloc::Global;

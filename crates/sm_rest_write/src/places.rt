@@ -1,16 +1,16 @@
 // Where the values of an operation stand in its messages.
 ghost use Rattle.std.specs.Prelude.{◌≡◌, ◌<◌, length, map};
 ghost use Rattle.std.specs.Option.{option_map};
-ghost use Rattle.sm_service.specs.ServiceView.{http_data, service_data};
+ghost use Rattle.sm_rest.specs.service.ServiceView.{http_data, service_data};
 ghost use Rattle.sm_shapes.specs.ValueView.{val_of};
-ghost use Rattle.sm_messages.specs.Answers.{reply_role, reply_val};
-ghost use Rattle.sm_messages.specs.Goals.{HasGoal, goal_of, the_error, the_input, the_output};
-ghost use Rattle.sm_bind.specs.BoundView.{bound_of};
-ghost use Rattle.sm_bind_read.specs.BoundGoals.{bound_at, literal_keys};
+ghost use Rattle.sm_rest.specs.messages.Answers.{reply_role, reply_val};
+ghost use Rattle.sm_rest.specs.messages.Goals.{HasGoal, goal_of, the_error, the_input, the_output};
+ghost use Rattle.sm_rest.specs.bind.BoundView.{bound_of};
+ghost use Rattle.sm_rest.specs.bind_read.BoundGoals.{bound_at, literal_keys};
 
-use sm_bind::{BoundPlace, PartSide};
-use sm_messages::{Reply, error_at, input_shape, operation_at, output_shape};
-use sm_service::{HttpRule, Service};
+use sm_rest::sm_bind::{BoundPlace, PartSide};
+use sm_rest::sm_messages::{Reply, error_at, input_shape, operation_at, output_shape};
+use sm_rest::sm_service::{HttpRule, Service};
 use sm_shapes::values::Value;
 use sm_tree::Text;
 

@@ -1,13 +1,13 @@
 // The statuses of responses, where no member is bound to them.
 ghost use Rattle.std.specs.Prelude.{◌≡◌, ◌<◌, length};
 ghost use Rattle.std.specs.Option.{option_map};
-ghost use Rattle.sm_service.specs.ServiceView.{http_data, service_data};
-ghost use Rattle.sm_messages.specs.Answers.{reply_role};
-ghost use Rattle.sm_messages.specs.Goals.{HasGoal, goal_of, the_output};
+ghost use Rattle.sm_rest.specs.service.ServiceView.{http_data, service_data};
+ghost use Rattle.sm_rest.specs.messages.Answers.{reply_role};
+ghost use Rattle.sm_rest.specs.messages.Goals.{HasGoal, goal_of, the_output};
 ghost use Rattle.sm_rest.specs.RestGoals.{code_of, error_status, usual_status};
 
-use sm_messages::{Reply, error_at, fault_status, operation_at};
-use sm_service::{ErrorShape, HttpRule, Service};
+use sm_rest::sm_messages::{Reply, error_at, fault_status, operation_at};
+use sm_rest::sm_service::{ErrorShape, HttpRule, Service};
 
 // The `code` of an output.
 fn code_of(rule: &Option<HttpRule>) -> u16

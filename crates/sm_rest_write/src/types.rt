@@ -2,12 +2,12 @@
 ghost use Rattle.std.specs.Prelude.{◌≡◌, ◌<◌, Some};
 ghost use Rattle.sm_shapes.specs.TableData.{kind_at, shape_count};
 ghost use Rattle.sm_shapes.specs.TableView.{table_data};
-ghost use Rattle.sm_bind.specs.BoundView.{bound_of};
+ghost use Rattle.sm_rest.specs.bind.BoundView.{bound_of};
 ghost use Rattle.sm_rest.specs.RestGoals.{payload_type, type_by, type_or, usual_type, written_type};
 
-use sm_bind::BoundPlace;
-use sm_bind_write::is_media_type;
-use sm_rest_heads::{BodyPart, body_part};
+use sm_rest::sm_bind::BoundPlace;
+use sm_rest::sm_bind_write::is_media_type;
+use sm_rest::sm_rest_heads::{BodyPart, body_part};
 use sm_shapes::kinds::ShapeKind;
 use sm_shapes::tables::Table;
 use sm_tree::Text;

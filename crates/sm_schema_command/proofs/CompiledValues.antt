@@ -12,7 +12,7 @@ use Rattle.sm_compile.specs.Answers.{StoreSeen, TableSeen, IsTableSeen}
 use Rattle.sm_compile.specs.Compiled.{EachSays, Numbering, PatternRows, SaysMember, SaysShape}
 use Rattle.sm_compile.specs.Said.{numbers_said, texts_said}
 use Rattle.sm_schema.specs.Definitions.{EachHasValues, HasTargetsValues, HaveTargetsValues}
-use Rattle.sm_asked.specs.Stages.{Told}
+use Rattle.sm_asked_shape.specs.asked.Stages.{Told}
 use Rattle.sm_asked_shape.specs.LoadsShape.{IsLoadedShape}
 use Rattle.sm_asked_shape.specs.declared.shape.LoadedShape.{LoadedShape}
 

@@ -1,6 +1,6 @@
 -- The words of `schema` have one reading; and the command leaves the input and writes no file.
 use Rattle.std.proofs.Common.{◌≡◌, ℕ, Bool, true, false, cond, List, [], ◌∷◌, sym, ap, subst, ◌∙◌, refl, codes, bytes_eq}
-use Rattle.sm_asked.specs.AskedLaws.{ReachesInput, WritesAsNamed}
+use Rattle.sm_asked_shape.specs.asked.AskedLaws.{ReachesInput, WritesAsNamed}
 use Rattle.sm_asked_shape.proofs.ShapeComes.{none_over_shape, reach_over_shape}
 use Rattle.sm_schema_command.specs.Schema.{SchemaSays, schema_asked}
 use Rattle.sm_schema_command.specs.SchemaForm.{IsSchemaForm, described_words, names_word}

@@ -6,8 +6,8 @@ use Rattle.sm_compile.specs.Reached.{IsReached}
 use Rattle.sm_notes.specs.NotesSaid.{notes_said}
 use Rattle.sm_notes.proofs.NotesNumbered.{one_said}
 use Rattle.sm_schema.specs.Noted.{NotesData}
-use Rattle.sm_asked.specs.Stages.{Told}
-use Rattle.sm_asked.proofs.ToldAll.{IsToldWhole}
+use Rattle.sm_asked_shape.specs.asked.Stages.{Told}
+use Rattle.sm_asked_shape.proofs.asked.ToldAll.{IsToldWhole}
 use Rattle.sm_asked_shape.specs.ShapeStages.{TableMade}
 use Rattle.sm_schema_command.specs.Schema.{notes_of}
 

@@ -5,14 +5,14 @@ use Rattle.sm_tree.specs.Node.{Node}
 use Rattle.sm_shapes.specs.TableData.{TableData, shape_count}
 use Rattle.sm_codec.specs.FilledLaws.{IsFilled}
 use Rattle.sm_compile.specs.Laws.{SomeTable}
-use Rattle.sm_load.specs.Laws.{SomeLoad, SoundModels}
+use Rattle.sm_asked_shape.specs.load.Laws.{SomeLoad, SoundModels}
 use Rattle.sm_schema.specs.Described.{IsSchema}
 use Rattle.sm_schema.specs.Noted.{IsNotedSchema, NotesData}
 use Rattle.sm_schema.specs.SchemaLaws.{OneNotedSchema, OneSchema, SomeNotedSchema, SomeSchema}
-use Rattle.sm_asked.specs.Answer.{Answer, done}
-use Rattle.sm_asked.specs.AskedLaws.{AreThere}
-use Rattle.sm_asked.specs.Stages.{Told}
-use Rattle.sm_asked.proofs.ToldAll.{IsToldWhole}
+use Rattle.sm_asked_shape.specs.asked.Answer.{Answer, done}
+use Rattle.sm_asked_shape.specs.asked.AskedLaws.{AreThere}
+use Rattle.sm_asked_shape.specs.asked.Stages.{Told}
+use Rattle.sm_asked_shape.proofs.asked.ToldAll.{IsToldWhole}
 use Rattle.sm_asked_shape.specs.ShapeStages.{ShapeServed, TableMade, table_of}
 use Rattle.sm_asked_shape.proofs.OneShape.{shape_apart, shape_same, tables_same}
 use Rattle.sm_asked_shape.proofs.SomeShape.{shape_answered}

@@ -8,20 +8,20 @@ use Rattle.sm_shapes.specs.TableView.{table_data}
 use Rattle.sm_model.specs.GraphView.{maps_of}
 use Rattle.sm_compile.specs.Answers.{StoreSeen, seen_table}
 use Rattle.sm_compile.specs.declared.compiled.OneShape.{OneShape}
-use Rattle.sm_load.specs.declared.model.Model.{Model}
+use Rattle.sm_asked_shape.specs.load.declared.model.Model.{Model}
 use Rattle.sm_notes.proofs.NotesNumbered.{notes_numbered}
 use Rattle.sm_schema.specs.Described.{IsSchema}
 use Rattle.sm_schema.specs.Noted.{IsNotedSchema, NotesData}
-use Rattle.sm_asked.specs.Answer.{done}
-use Rattle.sm_asked.specs.CommandAsked.{CommandAsked, told_by}
-use Rattle.sm_asked.specs.Comes.{CommandComesTo}
-use Rattle.sm_asked.specs.Loading.{Loads}
-use Rattle.sm_asked.specs.declared.lines.Shown.TheVariants.{Errors}
-use Rattle.sm_asked.proofs.Answered.{none_is_some}
-use Rattle.sm_asked.specs.Outside.{InputsSeen, inputs_seen}
-use Rattle.sm_asked.specs.Stages.{Told}
-use Rattle.sm_asked.specs.declared.stop.CommandStop.{CommandStop}
-use Rattle.sm_asked.specs.declared.stop.CommandStop.TheVariants.{NoMemory as out_of_memory}
+use Rattle.sm_asked_shape.specs.asked.Answer.{done}
+use Rattle.sm_asked_shape.specs.asked.CommandAsked.{CommandAsked, told_by}
+use Rattle.sm_asked_shape.specs.asked.Comes.{CommandComesTo}
+use Rattle.sm_asked_shape.specs.asked.Loading.{Loads}
+use Rattle.sm_asked_shape.specs.asked.declared.lines.Shown.TheVariants.{Errors}
+use Rattle.sm_asked_shape.proofs.asked.Answered.{none_is_some}
+use Rattle.sm_asked_shape.specs.asked.Outside.{InputsSeen, inputs_seen}
+use Rattle.sm_asked_shape.specs.asked.Stages.{Told}
+use Rattle.sm_asked_shape.specs.asked.declared.stop.CommandStop.{CommandStop}
+use Rattle.sm_asked_shape.specs.asked.declared.stop.CommandStop.TheVariants.{NoMemory as out_of_memory}
 use Rattle.sm_asked_shape.specs.LoadsShape.{IsLoadedShape, LoadsShape}
 use Rattle.sm_asked_shape.specs.ShapeStages.{TableMade, table_of}
 use Rattle.sm_asked_shape.specs.ShapeTables.{HasTableOf, IsFilledShape}

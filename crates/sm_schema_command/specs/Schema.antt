@@ -8,9 +8,9 @@ use Rattle.sm_json.specs.Written.{written}
 use Rattle.sm_notes.specs.NotesSaid.{notes_said}
 use Rattle.sm_schema.specs.Described.{IsSchema}
 use Rattle.sm_schema.specs.Noted.{IsNotedSchema, NotesData}
-use Rattle.sm_asked.specs.Answer.{Answer, done}
-use Rattle.sm_asked.specs.CommandAsked.{CommandAsked}
-use Rattle.sm_asked.specs.Stages.{Told}
+use Rattle.sm_asked_shape.specs.asked.Answer.{Answer, done}
+use Rattle.sm_asked_shape.specs.asked.CommandAsked.{CommandAsked}
+use Rattle.sm_asked_shape.specs.asked.Stages.{Told}
 use Rattle.sm_asked_shape.specs.OverShape.{over_shape}
 use Rattle.sm_asked_shape.specs.ShapeAnswers.{ShapeAnswers}
 use Rattle.sm_asked_shape.specs.ShapeStages.{ShapeServed, TableMade, table_of}

@@ -1,6 +1,6 @@
 // What holds of what the command comes to. These calls do nothing.
 ghost use Rattle.std.specs.Prelude.{List, ℕ, Bool};
-ghost use Rattle.sm_asked.specs.AskedLaws.{ComesToOne, ComesToSome};
+ghost use Rattle.sm_asked_shape.specs.asked.AskedLaws.{ComesToOne, ComesToSome};
 ghost use Rattle.sm_schema_command.specs.Schema.{schema_asked};
 
 /// A model file and a store of patterns come to one thing.
@@ -18,6 +18,6 @@ pub fn some_answer()
     sm_schema::laws::some_schema();
     sm_schema::laws::some_noted_schema();
     sm_compile::laws::some_table();
-    sm_load::laws::some_load();
-    sm_load::laws::sound_models();
+    sm_asked_shape::sm_load::laws::some_load();
+    sm_asked_shape::sm_load::laws::sound_models();
 }

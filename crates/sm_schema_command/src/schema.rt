@@ -10,19 +10,19 @@ ghost use Rattle.sm_shapes.specs.InOrder.{Shaped};
 ghost use Rattle.sm_shapes.specs.TableData.{shape_count};
 ghost use Rattle.sm_shapes.specs.TableView.{table_data};
 ghost use Rattle.sm_compile.specs.Answers.{seen_store};
-ghost use Rattle.sm_asked.specs.CommandAsked.{OnlyAdds};
-ghost use Rattle.sm_asked.specs.Comes.{CommandComesTo};
-ghost use Rattle.sm_asked.specs.Outside.{inputs_seen};
+ghost use Rattle.sm_asked_shape.specs.asked.CommandAsked.{OnlyAdds};
+ghost use Rattle.sm_asked_shape.specs.asked.Comes.{CommandComesTo};
+ghost use Rattle.sm_asked_shape.specs.asked.Outside.{inputs_seen};
 ghost use Rattle.sm_schema.specs.Definitions.{HaveTargetsValues};
 ghost use Rattle.sm_schema_command.specs.Schema.{schema_asked, schema_text};
 ghost use Rattle.sm_schema_command.specs.steps.SchemaSteps.{IsNotedText, IsSchemaText};
 
 use crate::words::SchemaWords;
-use sm_asked::{CommandStop, load_file};
+use sm_asked_shape::sm_asked::{CommandStop, load_file};
+use sm_asked_shape::sm_load::Model;
 use sm_asked_shape::{LoadedShape, filled_shape, load_shape, table_named};
 use sm_io::Files;
 use sm_json::write_tree;
-use sm_load::Model;
 use sm_model::Graph;
 use sm_notes::notes_of;
 use sm_schema::{schema_described, schema_of_compiled};
@@ -166,7 +166,7 @@ fn described_schema<F: Files, P: Patterns>(
         Err(stop) => return Err(stop),
     };
     drop(events);
-    sm_load::laws::sound_models();
+    sm_asked_shape::sm_load::laws::sound_models();
     let made = match table_named(alloc, &graph, words.shape, patterns) {
         Ok(made) => made,
         Err(stop) => return Err(stop),

@@ -2,7 +2,7 @@
 ghost use Rattle.std.specs.Prelude.{◌≡◌, ◌∷◌, List, ℕ, Bool, MatchOption};
 ghost use Rattle.sm_schema_command.specs.SchemaForm.{IsSchemaForm, described_words, names_word};
 
-use sm_asked::is_word;
+use sm_asked_shape::sm_asked::is_word;
 use sm_tree::Text;
 
 /// The words of `schema MODELFILE SHAPE NAMES`, behind which `described` may stand.

@@ -11,11 +11,11 @@ use Rattle.sm_doors.specs.declared.doors.Phase.TheVariants.{Open}
 use Rattle.sm_session.specs.declared.session_end.SessionEnd.{SessionEnd}
 use Rattle.sm_session.specs.declared.session_end.SessionEnd.TheVariants.{Closed, Quota, FrontEnded, BackEnded, FrontFraming, BackFraming}
 use Rattle.sm_session.specs.declared.session_end.SessionEnd.TheVariants.{FrontRead, FrontWrite, BackRead, BackWrite, NoMemory}
-use Rattle.sm_asked.specs.Answer.{code_of}
-use Rattle.sm_asked.specs.declared.status.Status.{Status}
-use Rattle.sm_asked.specs.declared.status.Status.TheVariants.{Done, Refused, Usage, ReadFault, WriteFault, Pattern, Limit}
-use Rattle.sm_asked.specs.declared.status.Status.TheVariants.{NoMemory as ends_by_memory}
-use Rattle.sm_gateway.specs.GatewayData.{GatewayData}
+use Rattle.sm_asked_gateway.specs.asked.Answer.{code_of}
+use Rattle.sm_asked_gateway.specs.asked.declared.status.Status.{Status}
+use Rattle.sm_asked_gateway.specs.asked.declared.status.Status.TheVariants.{Done, Refused, Usage, ReadFault, WriteFault, Pattern, Limit}
+use Rattle.sm_asked_gateway.specs.asked.declared.status.Status.TheVariants.{NoMemory as ends_by_memory}
+use Rattle.sm_asked_gateway.specs.gateway.GatewayData.{GatewayData}
 use Rattle.sm_serve.specs.Links.{EachLink, HasServed, LinksEnd, PutsAll, PutsPart, ServesLinks, TellsServed, risen}
 use Rattle.sm_serve.specs.steps.LinkSteps.{ServesLink, all_status, short_after}
 use Rattle.sm_serve.proofs.SessionsPut.{all_put, part_put}

@@ -5,7 +5,7 @@ use Rattle.sm_shapes.specs.Fitting.{Test}
 use Rattle.sm_compile.specs.Answers.{StoreSeen}
 use Rattle.sm_doors.specs.DoorsSeen.{DoorsSeen}
 use Rattle.sm_asked_gateway.specs.MakesGateway.{GatewayIsMade}
-use Rattle.sm_gateway.specs.GatewayData.{GatewayData}
+use Rattle.sm_asked_gateway.specs.gateway.GatewayData.{GatewayData}
 use Rattle.sm_serve.specs.ServeWords.{IsServeForm, ServeAsked}
 use Rattle.sm_serve.specs.Serves.{ListensAndServes, StartsAndServes}
 use Rattle.sm_serve.specs.Starts.{ForServe}

@@ -10,8 +10,8 @@ use Rattle.sm_session.specs.Sessions.{SessionSaid, turn_limit}
 use Rattle.sm_session.specs.declared.session_end.SessionEnd.{SessionEnd}
 use Rattle.sm_session.specs.declared.session_end.SessionEnd.TheVariants.{Closed, Quota, FrontEnded, BackEnded, FrontFraming, BackFraming}
 use Rattle.sm_session.specs.declared.session_end.SessionEnd.TheVariants.{FrontRead, FrontWrite, BackRead, BackWrite, NoMemory}
-use Rattle.sm_gateway.specs.GatewayData.{GatewayData}
-use Rattle.sm_gateway.specs.GatewayTurns.{Session, gateway_turn}
+use Rattle.sm_asked_gateway.specs.gateway.GatewayData.{GatewayData}
+use Rattle.sm_asked_gateway.specs.gateway.GatewayTurns.{Session, gateway_turn}
 use Rattle.sm_serve.specs.Links.{PrefixesPut, PutsAll, PutsPart, SessionPut}
 use Rattle.sm_serve.specs.steps.LinkSteps.{short_after}
 

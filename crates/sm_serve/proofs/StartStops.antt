@@ -3,10 +3,10 @@ use Rattle.std.proofs.Common.{ℕ, List, refl}
 use Rattle.sm_io.specs.Seen.{FilesSeen}
 use Rattle.sm_shapes.specs.Fitting.{Test}
 use Rattle.sm_compile.specs.Answers.{StoreSeen}
-use Rattle.sm_asked.specs.Answer.{past, pattern_refused, refused}
-use Rattle.sm_asked.specs.declared.stop.CommandStop.{CommandStop}
-use Rattle.sm_asked.specs.declared.stop.CommandStop.TheVariants.{Limit, NoMemory, Pattern, ReadFault, Refused}
-use Rattle.sm_asked_service.specs.LoadsService.{StopsBefore}
+use Rattle.sm_asked_gateway.specs.asked.Answer.{past, pattern_refused, refused}
+use Rattle.sm_asked_gateway.specs.asked.declared.stop.CommandStop.{CommandStop}
+use Rattle.sm_asked_gateway.specs.asked.declared.stop.CommandStop.TheVariants.{Limit, NoMemory, Pattern, ReadFault, Refused}
+use Rattle.sm_asked_gateway.specs.asked_service.LoadsService.{StopsBefore}
 use Rattle.sm_asked_gateway.specs.GatewayAnswers.{GatewayAnswers}
 use Rattle.sm_serve.specs.ServeWords.{IsServeForm, ServeAsked}
 use Rattle.sm_serve.specs.Starts.{StopsSo}

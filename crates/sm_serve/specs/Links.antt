@@ -9,11 +9,11 @@ use Rattle.sm_doors.specs.DoorsSeen.{ClosedLink, DoorsSeen, LinksSeen, OpenedLin
 use Rattle.sm_doors.specs.declared.doors.Phase.TheVariants.{Open}
 use Rattle.sm_session.specs.Ends.{IfBoth}
 use Rattle.sm_session.specs.Sessions.{SessionSaid, flat}
-use Rattle.sm_asked.specs.Answer.{code_of}
-use Rattle.sm_asked.specs.declared.status.Status.{Status}
-use Rattle.sm_asked.specs.declared.status.Status.TheVariants.{Done, Refused, Usage, ReadFault, WriteFault, NoMemory, Pattern, Limit}
-use Rattle.sm_gateway.specs.GatewayData.{GatewayData}
-use Rattle.sm_gateway.specs.GatewayTurns.{Session}
+use Rattle.sm_asked_gateway.specs.asked.Answer.{code_of}
+use Rattle.sm_asked_gateway.specs.asked.declared.status.Status.{Status}
+use Rattle.sm_asked_gateway.specs.asked.declared.status.Status.TheVariants.{Done, Refused, Usage, ReadFault, WriteFault, NoMemory, Pattern, Limit}
+use Rattle.sm_asked_gateway.specs.gateway.GatewayData.{GatewayData}
+use Rattle.sm_asked_gateway.specs.gateway.GatewayTurns.{Session}
 
 -- ---- one link
 

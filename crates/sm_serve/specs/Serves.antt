@@ -5,10 +5,10 @@ use Rattle.sm_io.specs.Seen.{FilesSeen}
 use Rattle.sm_shapes.specs.Fitting.{Test}
 use Rattle.sm_compile.specs.Answers.{StoreSeen}
 use Rattle.sm_doors.specs.DoorsSeen.{DoorsSeen, behind_listen}
-use Rattle.sm_asked.specs.Answer.{code_of}
-use Rattle.sm_asked.specs.declared.status.Status.TheVariants.{ReadFault}
+use Rattle.sm_asked_gateway.specs.asked.Answer.{code_of}
+use Rattle.sm_asked_gateway.specs.asked.declared.status.Status.TheVariants.{ReadFault}
 use Rattle.sm_asked_gateway.specs.MakesGateway.{GatewayIsMade}
-use Rattle.sm_gateway.specs.GatewayData.{GatewayData}
+use Rattle.sm_asked_gateway.specs.gateway.GatewayData.{GatewayData}
 use Rattle.sm_serve.specs.Links.{ServesLinks}
 use Rattle.sm_serve.specs.ServeWords.{ServeAsked}
 use Rattle.sm_serve.specs.Starts.{ForServe, Stops}

@@ -4,12 +4,12 @@ use Rattle.sm_io.specs.Causes.{Rose}
 use Rattle.sm_io.specs.Seen.{FilesSeen}
 use Rattle.sm_shapes.specs.Fitting.{Test}
 use Rattle.sm_compile.specs.Answers.{StoreSeen}
-use Rattle.sm_asked.specs.Answer.{Answer, code_of}
-use Rattle.sm_asked.specs.declared.status.Status.{Status}
-use Rattle.sm_asked.specs.declared.status.Status.TheVariants.{Done, Refused, Usage, ReadFault, WriteFault, NoMemory, Pattern, Limit}
-use Rattle.sm_asked_service.specs.LoadsService.{StandsBefore}
-use Rattle.sm_gateway.specs.GatewayView.{gateway_data}
-use Rattle.sm_gateway.specs.declared.gateway.Gateway.{Gateway}
+use Rattle.sm_asked_gateway.specs.asked.Answer.{Answer, code_of}
+use Rattle.sm_asked_gateway.specs.asked.declared.status.Status.{Status}
+use Rattle.sm_asked_gateway.specs.asked.declared.status.Status.TheVariants.{Done, Refused, Usage, ReadFault, WriteFault, NoMemory, Pattern, Limit}
+use Rattle.sm_asked_gateway.specs.asked_service.LoadsService.{StandsBefore}
+use Rattle.sm_asked_gateway.specs.gateway.GatewayView.{gateway_data}
+use Rattle.sm_asked_gateway.specs.gateway.declared.gateway.Gateway.{Gateway}
 use Rattle.sm_asked_gateway.specs.GatewayAnswers.{GatewayAnswers}
 use Rattle.sm_asked_gateway.specs.MakesGateway.{GatewayIsMade}
 use Rattle.sm_serve.specs.ServeWords.{IsServeForm, ServeAsked}

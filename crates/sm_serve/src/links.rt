@@ -4,14 +4,14 @@ ghost use Rattle.sm_io.specs.Seen.{link_seen, stream};
 ghost use Rattle.sm_shapes.specs.InOrder.{AreStored};
 ghost use Rattle.sm_doors.specs.DoorsSeen.{IsPhase};
 ghost use Rattle.sm_doors.specs.declared.doors.Phase.TheVariants.{Lent, Open};
-ghost use Rattle.sm_gateway.specs.GatewayData.{ServesBoth};
-ghost use Rattle.sm_gateway.specs.GatewayView.{KeepsBoth, gateway_data};
+ghost use Rattle.sm_asked_gateway.specs.gateway.GatewayData.{ServesBoth};
+ghost use Rattle.sm_asked_gateway.specs.gateway.GatewayView.{KeepsBoth, gateway_data};
 ghost use Rattle.sm_serve.specs.Links.{ServesLinks};
 ghost use Rattle.sm_serve.specs.steps.LinkSteps.{ServesLink, all_status as the_all_status, short_after as is_short_after};
 
-use sm_asked::Status;
+use sm_asked_gateway::sm_asked::Status;
+use sm_asked_gateway::sm_gateway::{Gateway, serve_session};
 use sm_doors::{Doors, Link};
-use sm_gateway::{Gateway, serve_session};
 use sm_io::Failed;
 use sm_session::SessionEnd;
 use sm_shapes::Patterns;

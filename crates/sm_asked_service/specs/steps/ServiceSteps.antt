@@ -15,10 +15,10 @@ use Rattle.sm_service.specs.Servable.{Servable}
 use Rattle.sm_service.specs.ServiceData.{ServiceData}
 use Rattle.sm_service.specs.ServiceView.{service_data}
 use Rattle.sm_service.specs.declared.service.Service.{Service}
-use Rattle.sm_asked.specs.Answer.{Answer, refused, pattern_refused}
-use Rattle.sm_asked.specs.Comes.{StepStops}
-use Rattle.sm_asked.specs.Lines.{pattern_line}
-use Rattle.sm_asked.specs.declared.stop.CommandStop.{CommandStop}
+use Rattle.sm_asked_shape.specs.asked.Answer.{Answer, refused, pattern_refused}
+use Rattle.sm_asked_shape.specs.asked.Comes.{StepStops}
+use Rattle.sm_asked_shape.specs.asked.Lines.{pattern_line}
+use Rattle.sm_asked_shape.specs.asked.declared.stop.CommandStop.{CommandStop}
 use Rattle.sm_asked_service.specs.ServiceAnswers.{no_service_line}
 
 -- what a graph comes to for a service that isn't compiled, with what the store did

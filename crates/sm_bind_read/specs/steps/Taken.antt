@@ -7,7 +7,7 @@ use Rattle.std.specs.List.{filter_map}
 use Rattle.std.specs.Ordering.{nat_cmp}
 use Rattle.std.specs.Str.{str_to_ascii_lowercase}
 use denote.Ref.{Bor}
-use Rattle.sm_service.specs.WireMembers.{header_of, query_of}
+use Rattle.sm_messages.specs.service.WireMembers.{header_of, query_of}
 use Rattle.sm_bind.specs.Roles.{Bound, binding_on}
 
 -- the names of headers of these members, in lower case, and their keys of queries

@@ -9,12 +9,12 @@ use Rattle.sm_shapes.specs.Places.{root_place}
 use Rattle.sm_shapes.specs.TableData.{TableData}
 use Rattle.sm_bodies.specs.TextAnswers.{TextAnswer, TextAnswers}
 use Rattle.sm_bodies.specs.declared.form.BodyForm.{BodyForm}
-use Rattle.sm_asked.specs.Answer.{Answer, past}
-use Rattle.sm_asked.specs.Comes.{StepComesTo}
-use Rattle.sm_asked.specs.Limits.{body_limit}
-use Rattle.sm_asked.specs.Lines.{body_limit_line}
-use Rattle.sm_asked.specs.Stages.{IsInput}
-use Rattle.sm_asked.specs.declared.stop.CommandStop.{CommandStop}
+use Rattle.sm_asked_shape.specs.asked.Answer.{Answer, past}
+use Rattle.sm_asked_shape.specs.asked.Comes.{StepComesTo}
+use Rattle.sm_asked_shape.specs.asked.Limits.{body_limit}
+use Rattle.sm_asked_shape.specs.asked.Lines.{body_limit_line}
+use Rattle.sm_asked_shape.specs.asked.Stages.{IsInput}
+use Rattle.sm_asked_shape.specs.asked.declared.stop.CommandStop.{CommandStop}
 use Rattle.sm_body_command.specs.Body.{printed}
 
 -- what a body comes to, as it is printed

@@ -9,22 +9,22 @@ use Rattle.sm_io.specs.declared.files.FileRefusal.{FileRefusal}
 use Rattle.sm_io.specs.declared.files.FileRefusal.TheVariants.{Failed, TooLong, NoMemory as no_room}
 use Rattle.sm_shapes.specs.Fitting.{Test}
 use Rattle.sm_compile.specs.Answers.{StoreSeen}
-use Rattle.sm_service.specs.ServiceData.{ServiceData}
+use Rattle.sm_asked_gateway.specs.service.ServiceData.{ServiceData}
 use Rattle.sm_session.specs.Sessions.{SessionSaid, flat}
 use Rattle.sm_session.specs.declared.session_end.SessionEnd.{SessionEnd}
 use Rattle.sm_session.specs.declared.session_end.SessionEnd.TheVariants.{Closed, Quota, FrontEnded, BackEnded, FrontFraming, BackFraming}
 use Rattle.sm_session.specs.declared.session_end.SessionEnd.TheVariants.{FrontRead, FrontWrite, BackRead, BackWrite, NoMemory}
-use Rattle.sm_asked.specs.Comes.{StepStops}
-use Rattle.sm_asked.specs.Limits.{file_limit}
-use Rattle.sm_asked.specs.Stages.{told}
-use Rattle.sm_asked.specs.declared.status.Status.{Status}
-use Rattle.sm_asked.specs.declared.status.Status.TheVariants.{WriteFault, NoMemory as ends_by_memory}
-use Rattle.sm_asked.specs.declared.stop.CommandStop.{CommandStop}
-use Rattle.sm_asked.specs.steps.FileSteps.{PassesLimit}
-use Rattle.sm_asked_service.specs.LoadsService.{StopsBefore}
-use Rattle.sm_gateway.specs.GatewayData.{GatewayData}
-use Rattle.sm_gateway.specs.GatewayTurns.{Session}
-use Rattle.sm_gateway.specs.GatewayView.{gateway_data}
+use Rattle.sm_asked_ends.specs.asked.Comes.{StepStops}
+use Rattle.sm_asked_ends.specs.asked.Limits.{file_limit}
+use Rattle.sm_asked_ends.specs.asked.Stages.{told}
+use Rattle.sm_asked_ends.specs.asked.declared.status.Status.{Status}
+use Rattle.sm_asked_ends.specs.asked.declared.status.Status.TheVariants.{WriteFault, NoMemory as ends_by_memory}
+use Rattle.sm_asked_ends.specs.asked.declared.stop.CommandStop.{CommandStop}
+use Rattle.sm_asked_ends.specs.asked.steps.FileSteps.{PassesLimit}
+use Rattle.sm_asked_gateway.specs.asked_service.LoadsService.{StopsBefore}
+use Rattle.sm_asked_gateway.specs.gateway.GatewayData.{GatewayData}
+use Rattle.sm_asked_gateway.specs.gateway.GatewayTurns.{Session}
+use Rattle.sm_asked_gateway.specs.gateway.GatewayView.{gateway_data}
 use Rattle.sm_cross_command.specs.Cross.{CrossAnswers, end_status}
 use Rattle.sm_cross_command.specs.CrossStages.{CrossOpens, gateway_of}
 use Rattle.sm_cross_command.specs.CrossWords.{CrossAsked}

@@ -9,24 +9,24 @@ use Rattle.sm_shapes.specs.declared.fault.FaultKind.TheVariants.{NotCarried}
 use Rattle.sm_http.specs.declared.message.Head.{Head}
 use Rattle.sm_http.specs.declared.message.Message.{Message}
 use Rattle.sm_http.specs.Written.{written}
-use Rattle.sm_service.specs.ServiceData.{ServiceData}
+use Rattle.sm_protocols.specs.service.ServiceData.{ServiceData}
 use Rattle.sm_session.specs.Responding.{Begun}
 use Rattle.sm_session.specs.Turns.{Asked as SessionAsked}
 use Rattle.sm_session.specs.declared.responder.Turn.{Turn}
 use Rattle.sm_session.specs.declared.responder.Turn.TheVariants.{Answered, Asking}
-use Rattle.sm_messages.specs.Answers.{AnswersRequest, AnswersResponse, RefusedAs, reply_role, reply_val}
-use Rattle.sm_messages.specs.Crossings.{crosses, towards}
-use Rattle.sm_messages.specs.Goals.{Asked, Goal, a_request, a_response, goal_of}
-use Rattle.sm_messages.specs.HeadAnswers.{unserved}
-use Rattle.sm_messages.specs.Heads.{is_empty}
-use Rattle.sm_messages.specs.IsForm.{ReadsMessages}
-use Rattle.sm_messages.specs.MessageAnswers.{MessageAnswer, MessageAnswers, Refusal, by_fault, the_refusal, the_value}
-use Rattle.sm_messages.specs.MessageForm.{MessageForm}
-use Rattle.sm_messages.specs.declared.refusal.MessageRefusal.{MessageRefusal}
-use Rattle.sm_messages.specs.declared.refusal.MessageRefusal.TheVariants.{Fault, MediaType, Protocol, Syntax, UnknownError}
-use Rattle.sm_messages.specs.declared.refusal.MessageRefusal.TheVariants.{UnknownOperation, Unserved}
-use Rattle.sm_messages.specs.declared.refusal.MessageRefusal.TheVariants.{NoMemory as OutOfMemory}
-use Rattle.sm_messages.specs.declared.reply.Reply.{Reply as MessageReply}
+use Rattle.sm_protocols.specs.messages.Answers.{AnswersRequest, AnswersResponse, RefusedAs, reply_role, reply_val}
+use Rattle.sm_protocols.specs.messages.Crossings.{crosses, towards}
+use Rattle.sm_protocols.specs.messages.Goals.{Asked, Goal, a_request, a_response, goal_of}
+use Rattle.sm_protocols.specs.messages.HeadAnswers.{unserved}
+use Rattle.sm_protocols.specs.messages.Heads.{is_empty}
+use Rattle.sm_protocols.specs.messages.IsForm.{ReadsMessages}
+use Rattle.sm_protocols.specs.messages.MessageAnswers.{MessageAnswer, MessageAnswers, Refusal, by_fault, the_refusal, the_value}
+use Rattle.sm_protocols.specs.messages.MessageForm.{MessageForm}
+use Rattle.sm_protocols.specs.messages.declared.refusal.MessageRefusal.{MessageRefusal}
+use Rattle.sm_protocols.specs.messages.declared.refusal.MessageRefusal.TheVariants.{Fault, MediaType, Protocol, Syntax, UnknownError}
+use Rattle.sm_protocols.specs.messages.declared.refusal.MessageRefusal.TheVariants.{UnknownOperation, Unserved}
+use Rattle.sm_protocols.specs.messages.declared.refusal.MessageRefusal.TheVariants.{NoMemory as OutOfMemory}
+use Rattle.sm_protocols.specs.messages.declared.reply.Reply.{Reply as MessageReply}
 use Rattle.sm_protocols.specs.ProtocolBodies.{ProtocolBegun}
 use Rattle.sm_protocols.specs.declared.spoken.Spoken.{Spoken}
 use Rattle.sm_gateway.specs.Answers.{IsSaid}

@@ -10,27 +10,27 @@ use Rattle.sm_shapes.specs.declared.values.Value.{Value}
 use Rattle.sm_codec.specs.Codec.{Codec}
 use Rattle.sm_codec.specs.FrameView.{fault_at}
 use Rattle.sm_http.specs.declared.message.Head.{Head}
-use Rattle.sm_service.specs.ServiceData.{ServiceData}
-use Rattle.sm_messages.specs.Answers.{reply_role}
-use Rattle.sm_messages.specs.Goals.{Goal}
-use Rattle.sm_messages.specs.Heads.{is_empty}
-use Rattle.sm_messages.specs.MessageForm.{BodyUse, Content, HasContent, a_tree, as_text, naming}
-use Rattle.sm_messages.specs.Messages.{NamesError, error_of_tree}
-use Rattle.sm_messages.specs.declared.refusal.MessageRefusal.{MessageRefusal}
-use Rattle.sm_messages.specs.declared.refusal.MessageRefusal.TheVariants as refused
-use Rattle.sm_messages.specs.declared.reply.Reply.{Reply}
-use Rattle.sm_messages.specs.declared.reply.Reply.TheVariants as reply
+use Rattle.sm_rest.specs.service.ServiceData.{ServiceData}
+use Rattle.sm_rest.specs.messages.Answers.{reply_role}
+use Rattle.sm_rest.specs.messages.Goals.{Goal}
+use Rattle.sm_rest.specs.messages.Heads.{is_empty}
+use Rattle.sm_rest.specs.messages.MessageForm.{BodyUse, Content, HasContent, a_tree, as_text, naming}
+use Rattle.sm_rest.specs.messages.Messages.{NamesError, error_of_tree}
+use Rattle.sm_rest.specs.messages.declared.refusal.MessageRefusal.{MessageRefusal}
+use Rattle.sm_rest.specs.messages.declared.refusal.MessageRefusal.TheVariants as refused
+use Rattle.sm_rest.specs.messages.declared.reply.Reply.{Reply}
+use Rattle.sm_rest.specs.messages.declared.reply.Reply.TheVariants as reply
 use Rattle.sm_part_values.specs.Joins.{ErrsWith}
-use Rattle.sm_bind.specs.PartsData.{PartsData}
-use Rattle.sm_bind.specs.Roles.{Bound}
-use Rattle.sm_bind_read.specs.BoundGoals.{bound_at}
-use Rattle.sm_bind_read.specs.Outcomes.{IsTreeOf, StandsForContent}
-use Rattle.sm_bind_read.specs.PartFaults.{parts_reading}
-use Rattle.sm_bind_read.specs.declared.body.PartBody.{PartBody}
-use Rattle.sm_rest_heads.specs.BodyParts.{rest_use}
-use Rattle.sm_rest_heads.specs.RestParts.{head_parts}
-use Rattle.sm_rest_heads.specs.declared.bodies.BodyPart.{BodyPart}
-use Rattle.sm_rest_heads.specs.declared.bodies.BodyPart.TheVariants.{Document, Nothing, Raw, Tree}
+use Rattle.sm_rest.specs.bind.PartsData.{PartsData}
+use Rattle.sm_rest.specs.bind.Roles.{Bound}
+use Rattle.sm_rest.specs.bind_read.BoundGoals.{bound_at}
+use Rattle.sm_rest.specs.bind_read.Outcomes.{IsTreeOf, StandsForContent}
+use Rattle.sm_rest.specs.bind_read.PartFaults.{parts_reading}
+use Rattle.sm_rest.specs.bind_read.declared.body.PartBody.{PartBody}
+use Rattle.sm_rest.specs.rest_heads.BodyParts.{rest_use}
+use Rattle.sm_rest.specs.rest_heads.RestParts.{head_parts}
+use Rattle.sm_rest.specs.rest_heads.declared.bodies.BodyPart.{BodyPart}
+use Rattle.sm_rest.specs.rest_heads.declared.bodies.BodyPart.TheVariants.{Document, Nothing, Raw, Tree}
 use Rattle.sm_rest.specs.RestForm.{rest_form}
 
 -- a call is refused so for the syntax of its bytes, or for want of memory

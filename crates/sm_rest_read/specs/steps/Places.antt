@@ -3,10 +3,10 @@ use Rattle.std.specs.Prelude.{◌≡◌, ◌<◌}
 use Rattle.sm_shapes.specs.InOrder.{Shaped}
 use Rattle.sm_shapes.specs.TableData.{kind_at, shape_count}
 use Rattle.sm_shapes.specs.declared.kinds.ShapeKind.TheVariants.{Structure}
-use Rattle.sm_service.specs.HttpServable.{HaveOwnParts, HaveTargets}
-use Rattle.sm_service.specs.WireMembers.{wire_members}
-use Rattle.sm_bind.specs.BindingsView.{AreBindingsOf, BindingsData}
-use Rattle.sm_bind.specs.Roles.{Bound}
+use Rattle.sm_rest.specs.service.HttpServable.{HaveOwnParts, HaveTargets}
+use Rattle.sm_rest.specs.service.WireMembers.{wire_members}
+use Rattle.sm_rest.specs.bind.BindingsView.{AreBindingsOf, BindingsData}
+use Rattle.sm_rest.specs.bind.Roles.{Bound}
 
 -- a structure of a table in order, of which these are the bindings, where each part of a message is one member's
 pub record IsJoinable (b : Bound) (d : BindingsData) : Type 0 where

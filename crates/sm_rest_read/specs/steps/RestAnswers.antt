@@ -9,15 +9,15 @@ use Rattle.sm_shapes.specs.Values.{Val}
 use Rattle.sm_shapes.specs.declared.fault.FaultKind.{FaultKind}
 use Rattle.sm_codec.specs.FaultLists.{FaultAt}
 use Rattle.sm_http.specs.declared.message.Head.{Head}
-use Rattle.sm_service.specs.ServiceData.{ServiceData}
-use Rattle.sm_messages.specs.Goals.{Goal}
-use Rattle.sm_messages.specs.HeadAnswers.{Address, to_named_error, unknown_error}
-use Rattle.sm_messages.specs.Heads.{is_empty}
-use Rattle.sm_messages.specs.MessageAnswers.{MessageAnswer, by_fault, by_head, by_syntax, the_refusal, the_value, use_of}
-use Rattle.sm_messages.specs.MessageForm.{Content, HasContent, as_text}
-use Rattle.sm_messages.specs.Messages.{LeadsTo}
-use Rattle.sm_bind_read.specs.BoundGoals.{bound_at}
-use Rattle.sm_rest_heads.specs.BodyParts.{rest_use}
+use Rattle.sm_rest.specs.service.ServiceData.{ServiceData}
+use Rattle.sm_rest.specs.messages.Goals.{Goal}
+use Rattle.sm_rest.specs.messages.HeadAnswers.{Address, to_named_error, unknown_error}
+use Rattle.sm_rest.specs.messages.Heads.{is_empty}
+use Rattle.sm_rest.specs.messages.MessageAnswers.{MessageAnswer, by_fault, by_head, by_syntax, the_refusal, the_value, use_of}
+use Rattle.sm_rest.specs.messages.MessageForm.{Content, HasContent, as_text}
+use Rattle.sm_rest.specs.messages.Messages.{LeadsTo}
+use Rattle.sm_rest.specs.bind_read.BoundGoals.{bound_at}
+use Rattle.sm_rest.specs.rest_heads.BodyParts.{rest_use}
 use Rattle.sm_rest.specs.RestForm.{rest_form, rest_reading}
 use Rattle.sm_rest_read.specs.steps.Contents.{TellsNone}
 

@@ -4,12 +4,12 @@ use Rattle.sm_json.specs.Stands.{json_source}
 use Rattle.sm_shapes.specs.Fitting.{Test}
 use Rattle.sm_bodies.specs.Fed.{BodyFed}
 use Rattle.sm_http.specs.declared.message.Head.{Head}
-use Rattle.sm_service.specs.ServiceData.{ServiceData}
-use Rattle.sm_messages.specs.Goals.{Asked}
-use Rattle.sm_messages.specs.Pieces.{IsLive, UnlessMemory}
-use Rattle.sm_messages.specs.declared.refusal.MessageRefusal.{MessageRefusal}
-use Rattle.sm_bind.specs.BindingsView.{BindingsData, parts_data}
-use Rattle.sm_bind.specs.PartsData.{PartsData}
+use Rattle.sm_rest.specs.service.ServiceData.{ServiceData}
+use Rattle.sm_rest.specs.messages.Goals.{Asked}
+use Rattle.sm_rest.specs.messages.Pieces.{IsLive, UnlessMemory}
+use Rattle.sm_rest.specs.messages.declared.refusal.MessageRefusal.{MessageRefusal}
+use Rattle.sm_rest.specs.bind.BindingsView.{BindingsData, parts_data}
+use Rattle.sm_rest.specs.bind.PartsData.{PartsData}
 use Rattle.sm_rest.specs.declared.context.Rest.{Rest}
 use Rattle.sm_rest_read.specs.Begun.{FoundMemory, RestBegun, bindings_codec, rest_state}
 use Rattle.sm_rest_read.specs.declared.body.RestBody.{RestBody}

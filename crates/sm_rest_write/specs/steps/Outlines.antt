@@ -2,12 +2,12 @@
 use Rattle.std.specs.Prelude.{◌≡◌, ◌++◌, ℕ, List, Option}
 use Rattle.sm_shapes.specs.Values.{Val}
 use Rattle.sm_http.specs.declared.message.Message.{Message}
-use Rattle.sm_service.specs.ServiceData.{HttpData}
-use Rattle.sm_messages.specs.WrittenHeads.{written_request, written_response}
-use Rattle.sm_bind.specs.BindingsView.{parts_data}
-use Rattle.sm_bind.specs.Roles.{Bound}
-use Rattle.sm_bind_bodies.specs.WrittenBodies.{content_bytes}
-use Rattle.sm_bind_write.specs.WrittenParts.{request_target, written_content, written_parts}
+use Rattle.sm_rest.specs.service.ServiceData.{HttpData}
+use Rattle.sm_rest.specs.messages.WrittenHeads.{written_request, written_response}
+use Rattle.sm_rest.specs.bind.BindingsView.{parts_data}
+use Rattle.sm_rest.specs.bind.Roles.{Bound}
+use Rattle.sm_rest.specs.bind_bodies.WrittenBodies.{content_bytes}
+use Rattle.sm_rest.specs.bind_write.WrittenParts.{request_target, written_content, written_parts}
 use Rattle.sm_rest.specs.RestGoals.{written_type}
 use Rattle.sm_rest_write.specs.steps.Bodies.{bytes_of}
 use Rattle.sm_rest_write.specs.steps.ToldFields.{fields_telling}

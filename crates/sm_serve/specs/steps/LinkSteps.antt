@@ -9,10 +9,10 @@ use Rattle.sm_session.specs.declared.session_end.SessionEnd.{SessionEnd}
 use Rattle.sm_session.specs.declared.session_end.SessionEnd.TheVariants.{Closed, Quota, FrontEnded, BackEnded, FrontFraming, BackFraming}
 use Rattle.sm_session.specs.declared.session_end.SessionEnd.TheVariants.{FrontRead, FrontWrite, BackRead, BackWrite}
 use Rattle.sm_session.specs.declared.session_end.SessionEnd.TheVariants.{NoMemory as out_of_memory}
-use Rattle.sm_asked.specs.declared.status.Status.{Status}
-use Rattle.sm_asked.specs.declared.status.Status.TheVariants.{Done, NoMemory}
-use Rattle.sm_gateway.specs.GatewayData.{GatewayData}
-use Rattle.sm_gateway.specs.GatewayTurns.{gateway_turn}
+use Rattle.sm_asked_gateway.specs.asked.declared.status.Status.{Status}
+use Rattle.sm_asked_gateway.specs.asked.declared.status.Status.TheVariants.{Done, NoMemory}
+use Rattle.sm_asked_gateway.specs.gateway.GatewayData.{GatewayData}
+use Rattle.sm_asked_gateway.specs.gateway.GatewayTurns.{gateway_turn}
 
 -- a session was run over the link that was out, and it was closed as the session left it
 pub record ServesLink (g : GatewayData) (test : Test) (link : LinkSeen) (before after : DoorsSeen) (end : SessionEnd) : Type 0 where

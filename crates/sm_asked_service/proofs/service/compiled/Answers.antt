@@ -4,7 +4,7 @@ use Rattle.sm_ids.specs.View.{id_of}
 use Rattle.sm_model.specs.GraphView.{maps_of}
 use Rattle.sm_compile.specs.Answers.{seen_store}
 use Rattle.sm_rules.specs.Ready.{Ready}
-use Rattle.sm_asked.specs.Lines.{pattern_line}
+use Rattle.sm_asked_shape.specs.asked.Lines.{pattern_line}
 use Rattle.sm_asked_service.specs.ServiceAnswers.{no_service_line}
 use Rattle.sm_asked_service.proofs.ServicesCompiled.{service_made, service_missing, service_refused}
 use Rattle.sm_asked_service.proofs.service.compiled.Goals as goal

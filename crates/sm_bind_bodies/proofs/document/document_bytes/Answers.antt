@@ -12,8 +12,8 @@ use Rattle.sm_codec.specs.Conventions.{json_convention}
 use Rattle.sm_codec.specs.Written.{uncarried_fields}
 use Rattle.sm_codec.specs.WrittenObjects.{fields_among, written_object}
 use Rattle.sm_bodies.proofs.Handed.{text_taken, text_written}
-use Rattle.sm_bind.specs.BoundView.{bound_of}
-use Rattle.sm_bind.specs.Roles.{is_in_document}
+use Rattle.sm_bind_write.specs.bind.BoundView.{bound_of}
+use Rattle.sm_bind_write.specs.bind.Roles.{is_in_document}
 use Rattle.sm_bind_bodies.proofs.DocumentsWritten.{document_carried, document_is, document_json, document_rises}
 use Rattle.sm_bind_bodies.proofs.document.document_bytes.Goals as goal
 

@@ -1,7 +1,7 @@
 use Rattle.std.proofs.Common.{◌≡◌, ◌++◌, drop}
 use Rattle.std.specs.List.{filter}
-use Rattle.sm_bind.specs.BoundView.{bound_of}
-use Rattle.sm_bind.specs.Roles.{is_in_document}
+use Rattle.sm_bind_write.specs.bind.BoundView.{bound_of}
+use Rattle.sm_bind_write.specs.bind.Roles.{is_in_document}
 use Rattle.sm_bind_bodies.proofs.document.members_there.Given as goal
 
 abbrev pub invariant-loop-member : goal.invariant-loop-member

@@ -3,7 +3,7 @@ use Rattle.std.proofs.lemmas.List.{drop_more}
 use Rattle.std.proofs.lemmas.Result.{IfOk-weaker}
 use Rattle.sm_shapes.specs.Values.{fields_of}
 use Rattle.sm_shapes.specs.ValueView.{each_field_view, val_of}
-use Rattle.sm_bind.specs.BoundView.{bound_of}
+use Rattle.sm_bind_write.specs.bind.BoundView.{bound_of}
 use Rattle.sm_bind_write.specs.CarriedParts.{uncarried_bound}
 use Rattle.sm_bind_write.specs.WrittenParts.{payload_among, payload_by}
 use Rattle.sm_bind_write.specs.steps.FieldsMet.{FieldsReady}

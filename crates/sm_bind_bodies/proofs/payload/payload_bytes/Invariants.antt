@@ -1,7 +1,7 @@
 use Rattle.std.proofs.Common.{◌≡◌, drop}
 use Rattle.sm_shapes.specs.Values.{fields_of}
 use Rattle.sm_shapes.specs.ValueView.{each_field_view}
-use Rattle.sm_bind.specs.BoundView.{bound_of}
+use Rattle.sm_bind_write.specs.bind.BoundView.{bound_of}
 use Rattle.sm_bind_write.specs.WrittenParts.{payload_among}
 use Rattle.sm_bind_write.specs.steps.FieldsMet.{FieldsReady}
 use Rattle.sm_bind_bodies.specs.WrittenBodies.{content_bytes}

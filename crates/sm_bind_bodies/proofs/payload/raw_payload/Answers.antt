@@ -3,7 +3,7 @@ use Rattle.std.proofs.lemmas.List.{drop_more}
 use Rattle.std.proofs.lemmas.Option.{IfSome_then}
 use Rattle.sm_shapes.specs.Values.{fields_of}
 use Rattle.sm_shapes.specs.ValueView.{each_field_view, val_of}
-use Rattle.sm_bind.specs.BoundView.{bound_of}
+use Rattle.sm_bind_write.specs.bind.BoundView.{bound_of}
 use Rattle.sm_bind_write.specs.WrittenParts.{payload_among, payload_by}
 use Rattle.sm_bind_bodies.specs.WrittenBodies.{content_bytes}
 use Rattle.sm_bind_bodies.proofs.PayloadsWritten.{payload_counts, payload_other}

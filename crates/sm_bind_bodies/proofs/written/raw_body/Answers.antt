@@ -3,10 +3,10 @@ use Rattle.std.specs.List.{list_any}
 use Rattle.std.proofs.lemmas.Option.{IfSome_then}
 use Rattle.sm_tree.specs.Node.{object}
 use Rattle.sm_shapes.specs.ValueView.{val_of}
-use Rattle.sm_messages.specs.MessageForm.{a_tree}
-use Rattle.sm_messages.specs.TreeBodies.{fields_in}
-use Rattle.sm_bind.specs.BoundView.{bound_of}
-use Rattle.sm_bind.specs.Roles.{has_document, is_in_document}
+use Rattle.sm_bind_write.specs.messages.MessageForm.{a_tree}
+use Rattle.sm_bind_write.specs.messages.TreeBodies.{fields_in}
+use Rattle.sm_bind_write.specs.bind.BoundView.{bound_of}
+use Rattle.sm_bind_write.specs.bind.Roles.{has_document, is_in_document}
 use Rattle.sm_bind_write.specs.WrittenParts.{document_pairs, payload_among}
 use Rattle.sm_bind_bodies.specs.WrittenBodies.{content_bytes}
 use Rattle.sm_bind_bodies.proofs.written.raw_body.Goals as goal

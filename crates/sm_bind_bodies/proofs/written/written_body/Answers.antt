@@ -8,10 +8,10 @@ use Rattle.sm_shapes.specs.Places.{root_place}
 use Rattle.sm_shapes.specs.TableData.{members_at}
 use Rattle.sm_shapes.specs.Values.{structure_val}
 use Rattle.sm_shapes.specs.ValueView.{val_of}
-use Rattle.sm_messages.specs.MessageForm.{a_tree}
-use Rattle.sm_messages.specs.TreeBodies.{fields_in}
-use Rattle.sm_bind.specs.BoundView.{bound_of}
-use Rattle.sm_bind.specs.Roles.{has_document, is_in_document}
+use Rattle.sm_bind_write.specs.messages.MessageForm.{a_tree}
+use Rattle.sm_bind_write.specs.messages.TreeBodies.{fields_in}
+use Rattle.sm_bind_write.specs.bind.BoundView.{bound_of}
+use Rattle.sm_bind_write.specs.bind.Roles.{has_document, is_in_document}
 use Rattle.sm_bind_write.specs.WrittenParts.{document_pairs, payload_among}
 use Rattle.sm_bind_write.specs.steps.FieldsMet.{FieldsIn, FieldsReady}
 use Rattle.sm_bind_write.proofs.ReadyFields.{fields_met, ready, rising}

@@ -2,7 +2,7 @@ use Rattle.std.proofs.Common.{sym, ap, ◌∙◌}
 use Rattle.std.specs.Option.{option_map}
 use Rattle.sm_shapes.specs.TableData.{binding_in}
 use Rattle.sm_shapes.specs.TableView.{binding_data}
-use Rattle.sm_service.specs.WireMembers.{counted_binding}
+use Rattle.sm_messages.specs.service.WireMembers.{counted_binding}
 use Rattle.sm_bind.specs.BindingsView.{bound_side}
 use Rattle.sm_bind_read.specs.steps.Coming.{is_body_by}
 use Rattle.sm_bind_read.proofs.BoundStands.{counts_itself, counts_none}

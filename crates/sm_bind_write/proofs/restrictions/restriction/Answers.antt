@@ -1,6 +1,6 @@
 use Rattle.std.proofs.Common.{subst, sym}
-use Rattle.sm_service.specs.Servable.{IsServableOperation}
-use Rattle.sm_service.specs.ServiceView.{service_data}
+use Rattle.sm_messages.specs.service.Servable.{IsServableOperation}
+use Rattle.sm_messages.specs.service.ServiceView.{service_data}
 use Rattle.sm_messages.specs.Goals.{operation_at}
 use Rattle.sm_bind_write.proofs.ErrorsRefused.{operation_there}
 use Rattle.sm_bind_write.proofs.restrictions.restriction.Goals as goal

@@ -1,6 +1,6 @@
 use Rattle.std.proofs.Common.{◌≡◌, drop}
 use Rattle.std.specs.List.{list_any}
-use Rattle.sm_service.specs.WireMembers.{stands_in_body, wire_member_at}
+use Rattle.sm_messages.specs.service.WireMembers.{stands_in_body, wire_member_at}
 use Rattle.sm_bind.specs.BoundView.{bound_of}
 use Rattle.sm_bind_write.proofs.status.some_in_body.Given as goal
 

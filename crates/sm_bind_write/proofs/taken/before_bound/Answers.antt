@@ -1,7 +1,7 @@
 use Rattle.std.proofs.Common.{map, sym, ap, ◌∙◌}
 use Rattle.std.specs.Option.{option_map}
 use Rattle.sm_shapes.specs.TableView.{binding_data}
-use Rattle.sm_service.specs.WireMembers.{query_of}
+use Rattle.sm_messages.specs.service.WireMembers.{query_of}
 use Rattle.sm_bind_write.specs.steps.FreeKeys.{keys_before}
 use Rattle.sm_bind_write.specs.steps.Naming.{is_named}
 use Rattle.sm_bind_write.proofs.KeysFree.{all_entries}

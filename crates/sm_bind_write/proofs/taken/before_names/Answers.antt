@@ -1,7 +1,7 @@
 use Rattle.std.proofs.Common.{◌≡◌, ◌+◌, drop, get_or, map, min, sym, ap, ◌∙◌, arith}
 use Rattle.std.specs.List.{cons_option, filter_map}
 use Rattle.std.proofs.lemmas.List.{drop_all, drop_more}
-use Rattle.sm_service.specs.WireMembers.{query_of}
+use Rattle.sm_messages.specs.service.WireMembers.{query_of}
 use Rattle.sm_bind.specs.BoundView.{bound_of}
 use Rattle.sm_bind.specs.Roles.{binding_on, is_among}
 use Rattle.sm_bind_write.specs.steps.FreeKeys.{keys_before}

@@ -1,6 +1,6 @@
 use Rattle.std.proofs.Common.{map, min, sym, ap, ◌∙◌}
 use Rattle.std.specs.List.{filter_map}
-use Rattle.sm_service.specs.WireMembers.{query_of}
+use Rattle.sm_messages.specs.service.WireMembers.{query_of}
 use Rattle.sm_bind.specs.BoundView.{bound_of}
 use Rattle.sm_bind.specs.Roles.{binding_on, is_among, query_names}
 use Rattle.sm_bind_write.specs.steps.FreeKeys.{keys_before}

@@ -1,7 +1,7 @@
 use Rattle.std.proofs.Common.{◌≡◌, drop, map}
 use Rattle.std.specs.List.{filter_map}
 use Rattle.std.specs.Str.{str_to_ascii_lowercase}
-use Rattle.sm_service.specs.WireMembers.{header_of}
+use Rattle.sm_messages.specs.service.WireMembers.{header_of}
 use Rattle.sm_bind.specs.BoundView.{bound_of}
 use Rattle.sm_bind.specs.Roles.{binding_on, is_among}
 use Rattle.sm_bind_write.specs.steps.Naming.{joined}

@@ -1,9 +1,9 @@
 use Rattle.std.proofs.Common.{subst}
 use Rattle.sm_io.specs.Seen.{stream}
 use Rattle.sm_shapes.specs.TableView.{table_data}
-use Rattle.sm_asked.specs.Lines.{body_limit_line}
+use Rattle.sm_asked_shape.specs.asked.Lines.{body_limit_line}
 use Rattle.sm_body_command.specs.steps.BodySteps.{PrintsText}
-use Rattle.sm_asked.specs.Comes.{StepComesTo}
+use Rattle.sm_asked_shape.specs.asked.Comes.{StepComesTo}
 use Rattle.sm_body_command.proofs.Bodies.{input_comes, input_past}
 use Rattle.sm_body_command.proofs.body.far_input.Goals as goal
 

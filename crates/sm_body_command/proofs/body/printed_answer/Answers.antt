@@ -2,7 +2,7 @@ use Rattle.std.proofs.Common.{◌≡◌, ap, sym}
 use Rattle.sm_bodies.specs.AnswerView.{text_answer}
 use Rattle.sm_body_command.specs.Body.{printed}
 use Rattle.sm_lines.specs.Lines.{fault_line, syntax_line}
-use Rattle.sm_asked.proofs.Stops.{line_stops}
+use Rattle.sm_asked_shape.proofs.asked.Stops.{line_stops}
 use Rattle.sm_body_command.proofs.body.printed_answer.Goals as goal
 
 pub returns-in-Syntax : goal.returns-in-Syntax

@@ -1,4 +1,4 @@
-use Rattle.sm_asked.proofs.ToldAll.{all_told}
+use Rattle.sm_asked_shape.proofs.asked.ToldAll.{all_told}
 use Rattle.sm_body_command.proofs.OneBody.{body_same}
 use Rattle.sm_body_command.proofs.laws.one_answer.Goals as goal
 

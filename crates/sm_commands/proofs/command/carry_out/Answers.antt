@@ -3,9 +3,9 @@ use Rattle.std.proofs.lemmas.List.Elements.{Contains-append_right}
 use Rattle.std.specs.Prelude.{Contains}
 use Rattle.sm_io.specs.Seen.{files_seen, stream}
 use Rattle.sm_compile.specs.Answers.{seen_store}
-use Rattle.sm_asked.specs.Outside.{Outside, inputs_seen}
-use Rattle.sm_asked_ends.specs.AskedEnds.{AskedEnds}
-use Rattle.sm_asked_ends.proofs.WholeEnds.{whole_ends}
+use Rattle.sm_model_commands.specs.asked.Outside.{Outside, inputs_seen}
+use Rattle.sm_cross_command.specs.asked_ends.AskedEnds.{AskedEnds}
+use Rattle.sm_cross_command.proofs.asked_ends.WholeEnds.{whole_ends}
 use Rattle.sm_cross_command.specs.CrossView.{cross_said}
 use Rattle.sm_commands.specs.Commands.{asked_of}
 use Rattle.sm_commands.specs.steps.CarrySteps.{KeepsUnnamed}

@@ -1,9 +1,9 @@
 use Rattle.std.proofs.Common.{subst, sym}
 use Rattle.sm_io.specs.Seen.{files_seen, stream}
 use Rattle.sm_compile.specs.Answers.{seen_store}
-use Rattle.sm_asked.specs.Comes.{CommandComesTo}
-use Rattle.sm_asked.specs.Outside.{inputs_seen}
-use Rattle.sm_asked.proofs.OverFiles.{files_come}
+use Rattle.sm_model_commands.specs.asked.Comes.{CommandComesTo}
+use Rattle.sm_model_commands.specs.asked.Outside.{inputs_seen}
+use Rattle.sm_model_commands.proofs.asked.OverFiles.{files_come}
 use Rattle.sm_model_commands.specs.Check.{CheckSays}
 use Rattle.sm_model_commands.specs.Convert.{ConvertSays}
 use Rattle.sm_model_commands.specs.Select.{SelectSays}

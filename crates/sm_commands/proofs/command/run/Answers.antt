@@ -1,7 +1,7 @@
 use Rattle.std.proofs.Common.{◌≡◌}
 use Rattle.sm_io.specs.Seen.{files_seen, stream}
 use Rattle.sm_compile.specs.Answers.{seen_store}
-use Rattle.sm_asked.specs.Outside.{Outside, inputs_seen}
+use Rattle.sm_model_commands.specs.asked.Outside.{Outside, inputs_seen}
 use Rattle.sm_commands.specs.steps.FormSteps.{command_of}
 use Rattle.sm_commands.proofs.Runs.{command_runs, naming_none, unnamed_kept}
 use Rattle.sm_commands.proofs.command.run.Goals as goal

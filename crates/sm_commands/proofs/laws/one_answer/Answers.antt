@@ -1,4 +1,4 @@
-use Rattle.sm_asked.specs.AskedLaws.{ComesToOne}
+use Rattle.sm_model_commands.specs.asked.AskedLaws.{ComesToOne}
 use Rattle.sm_commands.proofs.Commanded.{of_each}
 use Rattle.sm_commands.proofs.OneRun.{one_run_answer}
 use Rattle.sm_commands.proofs.laws.one_answer.Goals as goal

@@ -1,4 +1,4 @@
-use Rattle.sm_asked.specs.AskedLaws.{ComesToSome}
+use Rattle.sm_model_commands.specs.asked.AskedLaws.{ComesToSome}
 use Rattle.sm_commands.proofs.Commanded.{of_each}
 use Rattle.sm_commands.proofs.laws.some_answer.Goals as goal
 

@@ -1,10 +1,10 @@
 use Rattle.std.proofs.Common.{inl, refl, ◌∙◌}
 use Rattle.sm_io.specs.Seen.{FilesSeen, files_seen, stream}
 use Rattle.sm_compile.specs.Answers.{seen_store}
-use Rattle.sm_asked.specs.CommandAsked.{FileFails}
-use Rattle.sm_asked.specs.Outside.{Outside, inputs_seen, outside}
+use Rattle.sm_asked_ends.specs.asked.CommandAsked.{FileFails}
+use Rattle.sm_asked_ends.specs.asked.Outside.{Outside, inputs_seen, outside}
 use Rattle.sm_asked_ends.proofs.EndsPrinted.{stop_ends}
-use Rattle.sm_asked_service.proofs.ServiceComes.{stands_before}
+use Rattle.sm_asked_gateway.proofs.asked_service.ServiceComes.{stands_before}
 use Rattle.sm_cross_command.specs.Cross.{CrossAnswers, cross_asked}
 use Rattle.sm_cross_command.specs.Cross.CrossSays.{not_opened}
 use Rattle.sm_cross_command.specs.CrossView.{cross_said}

@@ -1,6 +1,6 @@
-use Rattle.sm_asked.specs.Lines.{file_limit_line}
+use Rattle.sm_asked_ends.specs.asked.Lines.{file_limit_line}
 use Rattle.sm_io.specs.Seen.{files_seen}
-use Rattle.sm_asked.proofs.LongFiles.{file_past}
+use Rattle.sm_asked_ends.proofs.asked.LongFiles.{file_past}
 use Rattle.sm_cross_command.proofs.cross.read_back.Goals as goal
 
 pub returns-in-Err-TooLong-clause-opens : goal.returns-in-Err-TooLong-clause-opens

@@ -1,4 +1,4 @@
-use Rattle.sm_gateway.specs.GatewayView.{gateway_data}
+use Rattle.sm_asked_gateway.specs.gateway.GatewayView.{gateway_data}
 use Rattle.sm_cross_command.proofs.SessionsOver.{quiet_zero, ran_over}
 use Rattle.sm_cross_command.proofs.cross.run_opened.Goals as goal
 

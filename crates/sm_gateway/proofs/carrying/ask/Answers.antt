@@ -1,8 +1,8 @@
 use Rattle.std.proofs.Common.{◌≡◌, ◌++◌, refl, sym, ◌∙◌, subst}
 use Rattle.sm_shapes.specs.ValueView.{val_of}
 use Rattle.sm_http.specs.Written.{written}
-use Rattle.sm_service.specs.ServiceView.{service_data}
-use Rattle.sm_messages.specs.Goals.{goal_of, the_input}
+use Rattle.sm_protocols.specs.service.ServiceView.{service_data}
+use Rattle.sm_protocols.specs.messages.Goals.{goal_of, the_input}
 use Rattle.sm_protocols.specs.Forms.{form_of}
 use Rattle.sm_protocols.specs.Kept.{protocol_of}
 use Rattle.sm_gateway.proofs.ValuesCarried.{answered_uncarried, carried_of, not_carried_of}

@@ -1,7 +1,7 @@
 use Rattle.std.proofs.Common.{inl}
-use Rattle.sm_service.specs.ServiceView.{service_data}
-use Rattle.sm_messages.specs.Answers.{reply_role, reply_val}
-use Rattle.sm_messages.specs.Goals.{goal_of}
+use Rattle.sm_protocols.specs.service.ServiceView.{service_data}
+use Rattle.sm_protocols.specs.messages.Answers.{reply_role, reply_val}
+use Rattle.sm_protocols.specs.messages.Goals.{goal_of}
 use Rattle.sm_protocols.specs.Forms.{form_of}
 use Rattle.sm_protocols.specs.Kept.{protocol_of}
 use Rattle.sm_gateway.proofs.ValuesCarried.{told_uncarried}

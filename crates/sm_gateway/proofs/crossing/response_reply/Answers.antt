@@ -1,6 +1,6 @@
 use Rattle.std.proofs.Common.{◌∙◌, ap, []}
-use Rattle.sm_messages.specs.Goals.{a_response}
-use Rattle.sm_messages.specs.Heads.{is_empty}
+use Rattle.sm_protocols.specs.messages.Goals.{a_response}
+use Rattle.sm_protocols.specs.messages.Heads.{is_empty}
 use Rattle.sm_gateway.specs.GatewayData.{back_form, front_form}
 use Rattle.sm_gateway.specs.GatewayView.{gateway_data}
 use Rattle.sm_gateway.proofs.MessagesCrossed.{body_whole, response_read, response_refused}

@@ -1,4 +1,4 @@
-use Rattle.sm_messages.proofs.CrossedMessages.{crosses_or_refused}
+use Rattle.sm_protocols.proofs.messages.CrossedMessages.{crosses_or_refused}
 use Rattle.sm_protocols.specs.Forms.{form_of}
 use Rattle.sm_gateway.proofs.laws.crosses_or_refused.Goals as goal
 

@@ -1,8 +1,8 @@
 use Rattle.std.proofs.Common.{ap, arith, ◌≡◌, ◌<◌, ℕ, List, Option, Some, length, subst, sym}
 use Rattle.std.specs.Prelude.{slice_get}
 use Rattle.std.proofs.lemmas.List.{length-map}
-use Rattle.sm_service.specs.ServiceView.{operation_data, service_data}
-use Rattle.sm_messages.specs.Crossings.{or_by}
+use Rattle.sm_protocols.specs.service.ServiceView.{operation_data, service_data}
+use Rattle.sm_protocols.specs.messages.Crossings.{or_by}
 use Rattle.sm_protocols.specs.Forms.{form_of}
 use Rattle.sm_protocols.specs.Kept.{protocol_of}
 use Rattle.sm_gateway.proofs.RestrictionsMade.{got_more}

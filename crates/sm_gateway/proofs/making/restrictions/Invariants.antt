@@ -1,7 +1,7 @@
 use Rattle.std.proofs.Common.{◌≡◌, ◌≤◌, ◌<◌, ℕ, Some, length}
 use Rattle.std.specs.Prelude.{slice_get}
-use Rattle.sm_service.specs.ServiceView.{service_data}
-use Rattle.sm_messages.specs.Crossings.{or_by}
+use Rattle.sm_protocols.specs.service.ServiceView.{service_data}
+use Rattle.sm_protocols.specs.messages.Crossings.{or_by}
 use Rattle.sm_protocols.specs.Forms.{form_of}
 use Rattle.sm_protocols.specs.Kept.{protocol_of}
 use Rattle.sm_gateway.proofs.making.restrictions.Given as goal

@@ -1,5 +1,5 @@
 use Rattle.std.proofs.Common.{◌<◌, length, subst}
-use Rattle.sm_service.specs.ServiceView.{service_data}
+use Rattle.sm_protocols.specs.service.ServiceView.{service_data}
 use Rattle.sm_protocols.specs.Forms.{form_of}
 use Rattle.sm_protocols.specs.Kept.{protocol_of}
 use Rattle.sm_gateway.specs.GatewayView.{gateway_data}

@@ -1,8 +1,8 @@
 use Rattle.std.proofs.Common.{refl}
-use Rattle.sm_messages.specs.HeadAnswers.{not_served, unknown_error, unknown_operation, wrong_media_type, wrong_protocol}
-use Rattle.sm_messages.specs.MessageAnswers.{by_fault, by_head, by_syntax}
-use Rattle.sm_messages.specs.declared.refusal.MessageRefusal.TheVariants.{Fault, MediaType, Protocol, Syntax, UnknownError}
-use Rattle.sm_messages.specs.declared.refusal.MessageRefusal.TheVariants.{UnknownOperation, Unserved}
+use Rattle.sm_protocols.specs.messages.HeadAnswers.{not_served, unknown_error, unknown_operation, wrong_media_type, wrong_protocol}
+use Rattle.sm_protocols.specs.messages.MessageAnswers.{by_fault, by_head, by_syntax}
+use Rattle.sm_protocols.specs.messages.declared.refusal.MessageRefusal.TheVariants.{Fault, MediaType, Protocol, Syntax, UnknownError}
+use Rattle.sm_protocols.specs.messages.declared.refusal.MessageRefusal.TheVariants.{UnknownOperation, Unserved}
 use Rattle.sm_gateway.proofs.RefusalsSaid.{refuses}
 use Rattle.sm_gateway.proofs.reading.refused_body.Goals as goal
 

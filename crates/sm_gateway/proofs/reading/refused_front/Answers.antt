@@ -1,8 +1,8 @@
 use Rattle.std.proofs.Common.{subst}
-use Rattle.sm_service.specs.ServiceView.{service_data}
-use Rattle.sm_messages.specs.Answers.{AtHead, RefusedAs}
-use Rattle.sm_messages.specs.Goals.{a_request}
-use Rattle.sm_messages.specs.HeadAnswers.{IsJudged, refused_at_head, wrong_media_type}
+use Rattle.sm_protocols.specs.service.ServiceView.{service_data}
+use Rattle.sm_protocols.specs.messages.Answers.{AtHead, RefusedAs}
+use Rattle.sm_protocols.specs.messages.Goals.{a_request}
+use Rattle.sm_protocols.specs.messages.HeadAnswers.{IsJudged, refused_at_head, wrong_media_type}
 use Rattle.sm_protocols.specs.Forms.{form_of}
 use Rattle.sm_protocols.specs.Kept.{protocol_of}
 use Rattle.sm_gateway.specs.GatewayView.{gateway_data}

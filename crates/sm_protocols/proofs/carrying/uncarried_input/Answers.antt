@@ -3,8 +3,8 @@ use Rattle.std.specs.Prelude.{IfOk}
 use Rattle.sm_shapes.specs.ValueView.{val_of}
 use Rattle.sm_codec.specs.Encoded.{first_path}
 use Rattle.sm_http.specs.declared.message.MessageSide.TheVariants.{Request}
-use Rattle.sm_service.specs.ServiceView.{service_data}
-use Rattle.sm_messages.specs.Goals.{goal_of, the_input}
+use Rattle.sm_awsjson.specs.service.ServiceView.{service_data}
+use Rattle.sm_awsjson.specs.messages.Goals.{goal_of, the_input}
 use Rattle.sm_awsjson.specs.Messages.{aws_form}
 use Rattle.sm_awsjson.specs.declared.version.AwsVersion.TheVariants.{V10, V11}
 use Rattle.sm_rpc.specs.Messages.{rpc_form}

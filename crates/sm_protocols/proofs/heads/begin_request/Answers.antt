@@ -1,7 +1,7 @@
 use Rattle.std.proofs.Common.{sym, subst}
 use Rattle.std.specs.Prelude.{Err, Ok}
 use Rattle.sm_shapes.specs.Fitting.{any_text}
-use Rattle.sm_service.specs.ServiceView.{service_data}
+use Rattle.sm_awsjson.specs.service.ServiceView.{service_data}
 use Rattle.sm_awsjson.specs.declared.version.AwsVersion.TheVariants.{V10, V11}
 use Rattle.sm_protocols.specs.ProtocolBodies.{BeginsRequest}
 use Rattle.sm_protocols.specs.declared.body.ProtocolBody.TheVariants.{Aws, Rest, Rpc}

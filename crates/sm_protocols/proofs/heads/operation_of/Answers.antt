@@ -1,6 +1,6 @@
 use Rattle.std.proofs.Common.{sym, subst}
-use Rattle.sm_service.specs.ServiceView.{service_data}
-use Rattle.sm_messages.specs.HeadAnswers.{IsNamed}
+use Rattle.sm_awsjson.specs.service.ServiceView.{service_data}
+use Rattle.sm_awsjson.specs.messages.HeadAnswers.{IsNamed}
 use Rattle.sm_protocols.specs.Forms.{form_of}
 use Rattle.sm_protocols.specs.Kept.{protocol_of}
 use Rattle.sm_protocols.proofs.heads.operation_of.Goals as goal

@@ -1,8 +1,8 @@
 use Rattle.std.proofs.Common.{◌≡◌, sym, subst, ap}
 use Rattle.std.specs.Prelude.{IfOk}
-use Rattle.sm_service.specs.ServiceView.{service_data}
-use Rattle.sm_messages.specs.Answers.{reply_role, reply_val}
-use Rattle.sm_messages.specs.Goals.{goal_of}
+use Rattle.sm_awsjson.specs.service.ServiceView.{service_data}
+use Rattle.sm_awsjson.specs.messages.Answers.{reply_role, reply_val}
+use Rattle.sm_awsjson.specs.messages.Goals.{goal_of}
 use Rattle.sm_protocols.specs.Kept.{protocol_of}
 use Rattle.sm_protocols.specs.Forms.{form_of}
 use Rattle.sm_protocols.proofs.writing.write_response.Goals as goal

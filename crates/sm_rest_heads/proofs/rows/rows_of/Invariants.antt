@@ -1,6 +1,6 @@
 use Rattle.std.proofs.Common.{◌≡◌, ◌++◌, drop, map}
 use Rattle.sm_routes.specs.RouteView.{route_data}
-use Rattle.sm_service.specs.ServiceView.{operation_data}
+use Rattle.sm_bind.specs.service.ServiceView.{operation_data}
 use Rattle.sm_rest_heads.specs.RestRoutes.{routes_from}
 use Rattle.sm_rest_heads.proofs.rows.rows_of.Given as goal
 

@@ -1,9 +1,9 @@
 use Rattle.std.proofs.Common.{◌≡◌}
-use Rattle.sm_service.specs.ServiceView.{service_data}
-use Rattle.sm_messages.specs.Goals.{a_request, goal_of, the_input}
-use Rattle.sm_messages.specs.HeadAnswers.{IsJudged, addressed, refused_at_head, request_answer, to_goal}
-use Rattle.sm_messages.proofs.BodiesBegun.{request_within}
-use Rattle.sm_messages.proofs.TreeAnswered.{head_refused}
+use Rattle.sm_rest.specs.service.ServiceView.{service_data}
+use Rattle.sm_rest.specs.messages.Goals.{a_request, goal_of, the_input}
+use Rattle.sm_rest.specs.messages.HeadAnswers.{IsJudged, addressed, refused_at_head, request_answer, to_goal}
+use Rattle.sm_rest.proofs.messages.BodiesBegun.{request_within}
+use Rattle.sm_rest.proofs.messages.TreeAnswered.{head_refused}
 use Rattle.sm_rest.specs.RestForm.{rest_form}
 use Rattle.sm_rest.proofs.RestReads.{rest_reads}
 use Rattle.sm_rest_read.proofs.RestBodies.{begins_as, named_number, request_judged}

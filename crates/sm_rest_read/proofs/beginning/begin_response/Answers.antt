@@ -1,14 +1,14 @@
 use Rattle.std.proofs.Common.{◌≡◌, subst}
-use Rattle.sm_service.specs.ServiceView.{service_data}
-use Rattle.sm_messages.specs.Answers.{AtHead, RefusedAs}
-use Rattle.sm_messages.specs.Goals.{a_response, goal_of, the_error, the_output}
-use Rattle.sm_messages.specs.HeadAnswers.{IsJudged, addressed, refused_at_head, to_goal, to_named_error}
-use Rattle.sm_messages.specs.Judging.{response_address, told_answer}
-use Rattle.sm_messages.specs.Names.{told_by_head}
-use Rattle.sm_messages.specs.declared.judging.ResponseAddress.TheVariants.{Error, Named, Output}
-use Rattle.sm_messages.proofs.BodiesBegun.{has_address}
-use Rattle.sm_messages.proofs.HeadsJudged.{response_of}
-use Rattle.sm_messages.proofs.TreeAnswered.{head_refused}
+use Rattle.sm_rest.specs.service.ServiceView.{service_data}
+use Rattle.sm_rest.specs.messages.Answers.{AtHead, RefusedAs}
+use Rattle.sm_rest.specs.messages.Goals.{a_response, goal_of, the_error, the_output}
+use Rattle.sm_rest.specs.messages.HeadAnswers.{IsJudged, addressed, refused_at_head, to_goal, to_named_error}
+use Rattle.sm_rest.specs.messages.Judging.{response_address, told_answer}
+use Rattle.sm_rest.specs.messages.Names.{told_by_head}
+use Rattle.sm_rest.specs.messages.declared.judging.ResponseAddress.TheVariants.{Error, Named, Output}
+use Rattle.sm_rest.proofs.messages.BodiesBegun.{has_address}
+use Rattle.sm_rest.proofs.messages.HeadsJudged.{response_of}
+use Rattle.sm_rest.proofs.messages.TreeAnswered.{head_refused}
 use Rattle.sm_rest.specs.RestForm.{rest_form}
 use Rattle.sm_rest_read.proofs.RestBodies.{begins_as, response_judged}
 use Rattle.sm_rest_read.proofs.beginning.begin_response.Goals as goal

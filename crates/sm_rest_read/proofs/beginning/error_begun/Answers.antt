@@ -1,10 +1,10 @@
 use Rattle.std.proofs.Common.{[], refl}
-use Rattle.sm_service.specs.ServiceView.{service_data}
-use Rattle.sm_messages.specs.Goals.{a_response, goal_of, the_error}
-use Rattle.sm_messages.specs.HeadAnswers.{to_goal}
-use Rattle.sm_messages.specs.WrittenHeads.{with_fields}
-use Rattle.sm_bind.specs.BoundView.{bound_of}
-use Rattle.sm_rest_heads.specs.RestParts.{kept_start}
+use Rattle.sm_rest.specs.service.ServiceView.{service_data}
+use Rattle.sm_rest.specs.messages.Goals.{a_response, goal_of, the_error}
+use Rattle.sm_rest.specs.messages.HeadAnswers.{to_goal}
+use Rattle.sm_rest.specs.messages.WrittenHeads.{with_fields}
+use Rattle.sm_rest.specs.bind.BoundView.{bound_of}
+use Rattle.sm_rest.specs.rest_heads.RestParts.{kept_start}
 use Rattle.sm_rest_read.proofs.PlacesJoined.{shape_at, unread_at}
 use Rattle.sm_rest_read.proofs.RestBodies.{begins_held, keeps_none}
 use Rattle.sm_rest_read.proofs.beginning.error_begun.Goals as goal

@@ -1,7 +1,7 @@
 use Rattle.std.proofs.Common.{◌≡◌, ◌<◌, refl, sym, subst}
 use Rattle.std.specs.Prelude.{IfOk}
 use Rattle.sm_shapes.specs.TableData.{shape_count}
-use Rattle.sm_bind.specs.BindingsView.{bindings_data, parts_data}
+use Rattle.sm_rest.specs.bind.BindingsView.{bindings_data, parts_data}
 use Rattle.sm_rest_read.specs.Begun.{bindings_codec}
 use Rattle.sm_rest_read.proofs.beginning.fed.Goals as goal
 

@@ -1,9 +1,9 @@
 use Rattle.std.proofs.Common.{[], false, refl}
-use Rattle.sm_service.specs.ServiceView.{service_data}
-use Rattle.sm_messages.specs.Goals.{a_response}
-use Rattle.sm_messages.specs.HeadAnswers.{to_named_error}
-use Rattle.sm_messages.specs.WrittenHeads.{with_fields}
-use Rattle.sm_rest_heads.specs.RestParts.{kept_start}
+use Rattle.sm_rest.specs.service.ServiceView.{service_data}
+use Rattle.sm_rest.specs.messages.Goals.{a_response}
+use Rattle.sm_rest.specs.messages.HeadAnswers.{to_named_error}
+use Rattle.sm_rest.specs.messages.WrittenHeads.{with_fields}
+use Rattle.sm_rest.specs.rest_heads.RestParts.{kept_start}
 use Rattle.sm_rest_read.proofs.RestBodies.{begins_held}
 use Rattle.sm_rest_read.proofs.beginning.named_begun.Goals as goal
 

@@ -1,11 +1,11 @@
 use Rattle.std.proofs.Common.{[], refl, sym, ◌∙◌}
-use Rattle.sm_service.specs.ServiceView.{service_data}
-use Rattle.sm_messages.specs.Goals.{a_request, goal_of, the_input}
-use Rattle.sm_messages.specs.HeadAnswers.{to_goal}
-use Rattle.sm_messages.specs.WrittenHeads.{with_fields}
-use Rattle.sm_bind.specs.BindingsView.{bindings_data}
-use Rattle.sm_bind.specs.BoundView.{bound_of}
-use Rattle.sm_rest_heads.specs.RestParts.{head_parts, kept_start}
+use Rattle.sm_rest.specs.service.ServiceView.{service_data}
+use Rattle.sm_rest.specs.messages.Goals.{a_request, goal_of, the_input}
+use Rattle.sm_rest.specs.messages.HeadAnswers.{to_goal}
+use Rattle.sm_rest.specs.messages.WrittenHeads.{with_fields}
+use Rattle.sm_rest.specs.bind.BindingsView.{bindings_data}
+use Rattle.sm_rest.specs.bind.BoundView.{bound_of}
+use Rattle.sm_rest.specs.rest_heads.RestParts.{head_parts, kept_start}
 use Rattle.sm_rest_read.proofs.PlacesJoined.{fed_at, number_at, shape_at, unread_at}
 use Rattle.sm_rest_read.proofs.RestBodies.{begins_fed, begins_held, keeps_none}
 use Rattle.sm_rest_read.proofs.beginning.request_begun.Goals as goal

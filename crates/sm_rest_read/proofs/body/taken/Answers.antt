@@ -4,9 +4,9 @@ use Rattle.sm_shapes.specs.InOrder.{AreStored, Shaped}
 use Rattle.sm_codec.specs.Codec.{codec_of}
 use Rattle.sm_codec.specs.Conventions.{json_convention}
 use Rattle.sm_bodies.specs.Fed.{SomeFed}
-use Rattle.sm_service.specs.ServiceView.{service_data}
-use Rattle.sm_messages.specs.Pieces.{FeedsOn, MayTake}
-use Rattle.sm_bind.specs.BindingsView.{bindings_data}
+use Rattle.sm_rest.specs.service.ServiceView.{service_data}
+use Rattle.sm_rest.specs.messages.Pieces.{FeedsOn, MayTake}
+use Rattle.sm_rest.specs.bind.BindingsView.{bindings_data}
 use Rattle.sm_rest_read.specs.Begun.{TakesRest, rest_codec, rest_state}
 use Rattle.sm_rest_read.specs.declared.body.RestBody.TheVariants.{Fed}
 use Rattle.sm_rest_read.proofs.PlacesJoined.{stored_there}

@@ -2,8 +2,8 @@ use Rattle.std.proofs.Common.{◌<◌, sym, ◌∙◌, subst}
 use Rattle.sm_shapes.specs.InOrder.{AreStored, DefaultsPass, Shaped}
 use Rattle.sm_shapes.specs.TableData.{shape_count}
 use Rattle.sm_shapes.specs.TableView.{table_data}
-use Rattle.sm_bind.specs.BindingsView.{bindings_data, body_at}
-use Rattle.sm_bind.specs.BoundView.{bound_of}
+use Rattle.sm_rest.specs.bind.BindingsView.{bindings_data, body_at}
+use Rattle.sm_rest.specs.bind.BoundView.{bound_of}
 use Rattle.sm_rest_read.specs.Begun.{bindings_codec}
 use Rattle.sm_rest_read.proofs.BodyShapes.{part_has, shape_needed}
 use Rattle.sm_rest_read.proofs.ValuesJoined.{empty_given, number_there, text_content_given}

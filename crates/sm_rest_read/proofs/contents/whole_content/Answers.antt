@@ -1,8 +1,8 @@
 use Rattle.std.proofs.Common.{◌≡◌, false, rules, sym, ap, ◌∙◌, subst}
-use Rattle.sm_messages.specs.Heads.{is_empty}
-use Rattle.sm_bind.specs.BindingsView.{bindings_data, body_at}
-use Rattle.sm_bind.specs.BoundView.{bound_of}
-use Rattle.sm_rest_heads.specs.BodyParts.{rest_use, use_by}
+use Rattle.sm_rest.specs.messages.Heads.{is_empty}
+use Rattle.sm_rest.specs.bind.BindingsView.{bindings_data, body_at}
+use Rattle.sm_rest.specs.bind.BoundView.{bound_of}
+use Rattle.sm_rest.specs.rest_heads.BodyParts.{rest_use, use_by}
 use Rattle.sm_rest_read.specs.Begun.{bindings_codec}
 use Rattle.sm_rest_read.specs.steps.Contents.{GivesContent, is_document}
 use Rattle.sm_rest_read.proofs.BodyShapes.{document_is}

@@ -1,6 +1,6 @@
-use Rattle.sm_service.specs.ServiceView.{service_data}
-use Rattle.sm_messages.specs.Goals.{goal_of, the_input}
-use Rattle.sm_bind.specs.BoundView.{bound_of}
+use Rattle.sm_rest.specs.service.ServiceView.{service_data}
+use Rattle.sm_rest.specs.messages.Goals.{goal_of, the_input}
+use Rattle.sm_rest.specs.bind.BoundView.{bound_of}
 use Rattle.sm_rest_read.proofs.PlacesJoined.{shape_at}
 use Rattle.sm_rest_read.proofs.judging.is_request_type.Goals as goal
 

@@ -1,5 +1,5 @@
 use Rattle.std.proofs.Common.{sym, ◌∙◌}
-use Rattle.sm_service.specs.ServiceView.{service_data}
+use Rattle.sm_rest.specs.service.ServiceView.{service_data}
 use Rattle.sm_rest_read.proofs.RequestsJudged.{right_answer, unserved_answer, wrong_answer}
 use Rattle.sm_rest_read.proofs.judging.judge_operation.Goals as goal
 

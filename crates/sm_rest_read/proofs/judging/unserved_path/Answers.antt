@@ -1,7 +1,7 @@
 use Rattle.std.proofs.Common.{Some, ap, ◌∙◌}
 use Rattle.std.proofs.lemmas.Result.{IfOk-weaker}
 use Rattle.sm_compile.specs.declared.compiled.Served.TheVariants.{Unserved, Yes}
-use Rattle.sm_service.specs.ServiceView.{operation_data, served_said, service_data}
+use Rattle.sm_rest.specs.service.ServiceView.{operation_data, served_said, service_data}
 use Rattle.sm_rest_read.proofs.RequestsJudged.{unserved_by}
 use Rattle.sm_rest_read.proofs.judging.unserved_path.Goals as goal
 

@@ -1,6 +1,6 @@
 use Rattle.std.proofs.Common.{sym, ◌∙◌}
 use Rattle.sm_tree.specs.View.{node_of}
-use Rattle.sm_service.specs.ServiceView.{service_data}
+use Rattle.sm_rest.specs.service.ServiceView.{service_data}
 use Rattle.sm_rest_read.proofs.RestAnswered.{empty_tells_none, names_error, names_none, naming_refused}
 use Rattle.sm_rest_read.proofs.naming.error_named.Goals as goal
 

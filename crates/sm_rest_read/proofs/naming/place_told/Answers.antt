@@ -1,9 +1,9 @@
 use Rattle.std.proofs.Common.{◌<◌, arith, length, sym, subst, ◌∙◌}
 use Rattle.std.specs.List.{Contains}
-use Rattle.sm_service.specs.ServiceView.{service_data}
-use Rattle.sm_messages.specs.Names.{error_name}
-use Rattle.sm_messages.proofs.HeadsJudged.{place_within}
-use Rattle.sm_messages.proofs.TreeBodies.{operation_servable}
+use Rattle.sm_rest.specs.service.ServiceView.{service_data}
+use Rattle.sm_rest.specs.messages.Names.{error_name}
+use Rattle.sm_rest.proofs.messages.HeadsJudged.{place_within}
+use Rattle.sm_rest.proofs.messages.TreeBodies.{operation_servable}
 use Rattle.sm_rest_read.proofs.naming.place_told.Goals as goal
 
 pub error_told-requires-clause-ids : goal.error_told-requires-clause-ids

@@ -1,5 +1,5 @@
 use Rattle.std.proofs.Common.{◌∙◌}
-use Rattle.sm_bind.specs.BoundView.{bound_of}
+use Rattle.sm_rest.specs.bind.BoundView.{bound_of}
 use Rattle.sm_rest_read.proofs.BodyShapes.{part_same}
 use Rattle.sm_rest_read.proofs.places.part_at.Goals as goal
 

@@ -1,10 +1,10 @@
 use Rattle.std.proofs.Common.{◌≡◌, ap, subst, ◌∙◌}
-use Rattle.sm_service.specs.ServiceView.{service_data}
-use Rattle.sm_messages.specs.Answers.{AnswersRequest, AtHead, RefusedAs}
-use Rattle.sm_messages.specs.Goals.{a_request}
-use Rattle.sm_messages.specs.HeadAnswers.{IsJudged, refused_at_head}
-use Rattle.sm_messages.specs.Heads.{is_empty}
-use Rattle.sm_messages.specs.MessageAnswers.{MessageAnswers}
+use Rattle.sm_rest.specs.service.ServiceView.{service_data}
+use Rattle.sm_rest.specs.messages.Answers.{AnswersRequest, AtHead, RefusedAs}
+use Rattle.sm_rest.specs.messages.Goals.{a_request}
+use Rattle.sm_rest.specs.messages.HeadAnswers.{IsJudged, refused_at_head}
+use Rattle.sm_rest.specs.messages.Heads.{is_empty}
+use Rattle.sm_rest.specs.messages.MessageAnswers.{MessageAnswers}
 use Rattle.sm_rest_read.specs.Begun.{RestBegun}
 use Rattle.sm_rest.specs.RestForm.{rest_form}
 use Rattle.sm_rest_read.proofs.RestBodies.{rest_refused, rest_takes}

@@ -1,10 +1,10 @@
 use Rattle.std.proofs.Common.{refl}
 use Rattle.std.specs.Prelude.{Err, Ok}
-use Rattle.sm_service.specs.ServiceView.{service_data}
-use Rattle.sm_messages.specs.Goals.{goal_of, the_error}
-use Rattle.sm_bind.specs.BindingsView.{bindings_data}
-use Rattle.sm_bind.specs.BoundView.{bound_of}
-use Rattle.sm_rest_heads.specs.RestParts.{head_parts}
+use Rattle.sm_rest.specs.service.ServiceView.{service_data}
+use Rattle.sm_rest.specs.messages.Goals.{goal_of, the_error}
+use Rattle.sm_rest.specs.bind.BindingsView.{bindings_data}
+use Rattle.sm_rest.specs.bind.BoundView.{bound_of}
+use Rattle.sm_rest.specs.rest_heads.RestParts.{head_parts}
 use Rattle.sm_rest_read.proofs.PlacesJoined.{joinable, joins_there, pass_at, stored_at}
 use Rattle.sm_rest_read.proofs.replies.error_reply.Goals as goal
 

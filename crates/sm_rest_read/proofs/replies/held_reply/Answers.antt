@@ -1,15 +1,15 @@
 use Rattle.std.proofs.Common.{◌≡◌, refl, subst}
-use Rattle.sm_service.specs.ServiceView.{service_data}
-use Rattle.sm_messages.specs.Answers.{AnswersResponse, AtHead, RefusedAs}
-use Rattle.sm_messages.specs.Goals.{goal_of, the_error, the_output}
-use Rattle.sm_messages.specs.HeadAnswers.{refused_at_head, to_goal}
-use Rattle.sm_messages.specs.Judging.{response_address, told_answer}
-use Rattle.sm_messages.specs.MessageAnswers.{the_refusal}
-use Rattle.sm_messages.specs.Names.{told_by_head}
-use Rattle.sm_messages.specs.declared.judging.ResponseAddress.TheVariants.{Error, Named, Output}
-use Rattle.sm_messages.proofs.BodiesBegun.{has_address, same_there}
-use Rattle.sm_messages.proofs.HeadsJudged.{response_of}
-use Rattle.sm_messages.proofs.TreeAnswered.{none_refused}
+use Rattle.sm_rest.specs.service.ServiceView.{service_data}
+use Rattle.sm_rest.specs.messages.Answers.{AnswersResponse, AtHead, RefusedAs}
+use Rattle.sm_rest.specs.messages.Goals.{goal_of, the_error, the_output}
+use Rattle.sm_rest.specs.messages.HeadAnswers.{refused_at_head, to_goal}
+use Rattle.sm_rest.specs.messages.Judging.{response_address, told_answer}
+use Rattle.sm_rest.specs.messages.MessageAnswers.{the_refusal}
+use Rattle.sm_rest.specs.messages.Names.{told_by_head}
+use Rattle.sm_rest.specs.messages.declared.judging.ResponseAddress.TheVariants.{Error, Named, Output}
+use Rattle.sm_rest.proofs.messages.BodiesBegun.{has_address, same_there}
+use Rattle.sm_rest.proofs.messages.HeadsJudged.{response_of}
+use Rattle.sm_rest.proofs.messages.TreeAnswered.{none_refused}
 use Rattle.sm_rest.specs.RestForm.{rest_form}
 use Rattle.sm_rest_read.specs.steps.RestAnswers.{RestAnswers}
 use Rattle.sm_rest_read.proofs.RestAnswered.{reply_answers}

@@ -1,8 +1,8 @@
 use Rattle.std.proofs.Common.{◌≡◌, refl, rules, subst}
 use Rattle.std.specs.Prelude.{Err, Ok}
-use Rattle.sm_service.specs.ServiceView.{service_data}
-use Rattle.sm_messages.specs.Goals.{the_error}
-use Rattle.sm_messages.specs.HeadAnswers.{to_named_error}
+use Rattle.sm_rest.specs.service.ServiceView.{service_data}
+use Rattle.sm_rest.specs.messages.Goals.{the_error}
+use Rattle.sm_rest.specs.messages.HeadAnswers.{to_named_error}
 use Rattle.sm_rest_read.specs.steps.Contents.{NamesPlace}
 use Rattle.sm_rest_read.proofs.RestAnswered.{named_role, naming_answers, reply_answers}
 use Rattle.sm_rest_read.proofs.replies.named_reply.Goals as goal

@@ -5,10 +5,10 @@ use Rattle.sm_shapes.specs.TableView.{table_data}
 use Rattle.sm_codec.specs.Codec.{codec_of}
 use Rattle.sm_codec.specs.Conventions.{json_convention}
 use Rattle.sm_bodies.specs.Fed.{SomeFed}
-use Rattle.sm_messages.specs.Heads.{is_empty}
-use Rattle.sm_bind.specs.BindingsView.{bindings_data}
-use Rattle.sm_bind.specs.BoundView.{bound_of}
-use Rattle.sm_rest_heads.specs.BodyParts.{rest_use}
+use Rattle.sm_rest.specs.messages.Heads.{is_empty}
+use Rattle.sm_rest.specs.bind.BindingsView.{bindings_data}
+use Rattle.sm_rest.specs.bind.BoundView.{bound_of}
+use Rattle.sm_rest.specs.rest_heads.BodyParts.{rest_use}
 use Rattle.sm_rest_read.specs.steps.Contents.{is_document}
 use Rattle.sm_rest_read.proofs.PlacesJoined.{pass_there, stored_there}
 use Rattle.sm_rest_read.proofs.ValuesJoined.{fed_given}

@@ -1,8 +1,8 @@
 use Rattle.std.proofs.Common.{subst}
 use Rattle.std.specs.Prelude.{Err}
-use Rattle.sm_bind.specs.BindingsView.{bindings_data, body_at, bound_side, parts_data}
-use Rattle.sm_bind.specs.BoundView.{bound_of}
-use Rattle.sm_bind_read.specs.PartFaults.{parts_reading}
+use Rattle.sm_rest.specs.bind.BindingsView.{bindings_data, body_at, bound_side, parts_data}
+use Rattle.sm_rest.specs.bind.BoundView.{bound_of}
+use Rattle.sm_rest.specs.bind_read.PartFaults.{parts_reading}
 use Rattle.sm_part_values.specs.Joins.{JoinsTo}
 use Rattle.sm_rest_read.specs.Begun.{bindings_codec}
 use Rattle.sm_rest_read.specs.steps.Contents.{GivesContent}

@@ -1,9 +1,9 @@
 use Rattle.std.proofs.Common.{◌≡◌, subst}
 use Rattle.std.specs.Prelude.{IfOk}
-use Rattle.sm_messages.specs.Heads.{is_empty}
-use Rattle.sm_bind.specs.BindingsView.{parts_data}
-use Rattle.sm_bind.specs.BoundView.{bound_of}
-use Rattle.sm_rest_heads.specs.BodyParts.{rest_use}
+use Rattle.sm_rest.specs.messages.Heads.{is_empty}
+use Rattle.sm_rest.specs.bind.BindingsView.{parts_data}
+use Rattle.sm_rest.specs.bind.BoundView.{bound_of}
+use Rattle.sm_rest.specs.rest_heads.BodyParts.{rest_use}
 use Rattle.sm_rest_read.specs.steps.Contents.{JoinsAt}
 use Rattle.sm_rest_read.proofs.values.whole_value.Goals as goal
 

@@ -3,13 +3,13 @@ use Rattle.std.specs.Prelude.{IfOk}
 use Rattle.sm_codec.specs.Encoded.{first_path}
 use Rattle.sm_shapes.specs.Fitting.{Fits, any_text}
 use Rattle.sm_shapes.specs.ValueView.{val_of}
-use Rattle.sm_service.specs.ServiceView.{service_data}
-use Rattle.sm_messages.specs.Answers.{reply_role}
-use Rattle.sm_messages.specs.Goals.{goal_of}
-use Rattle.sm_messages.specs.TreeBodies.{goal_place}
-use Rattle.sm_bind.specs.BoundView.{bound_of}
-use Rattle.sm_bind_read.specs.BoundGoals.{bound_at}
-use Rattle.sm_bind_write.specs.CarriedParts.{uncarried_parts}
+use Rattle.sm_rest.specs.service.ServiceView.{service_data}
+use Rattle.sm_rest.specs.messages.Answers.{reply_role}
+use Rattle.sm_rest.specs.messages.Goals.{goal_of}
+use Rattle.sm_rest.specs.messages.TreeBodies.{goal_place}
+use Rattle.sm_rest.specs.bind.BoundView.{bound_of}
+use Rattle.sm_rest.specs.bind_read.BoundGoals.{bound_at}
+use Rattle.sm_rest.specs.bind_write.CarriedParts.{uncarried_parts}
 use Rattle.sm_rest_write.proofs.PlacesBound.{fits_there, shape_there, shaped_there}
 use Rattle.sm_rest_write.proofs.carried.uncarried_reply.Goals as goal
 

@@ -1,5 +1,5 @@
 use Rattle.std.proofs.Common.{◌≡◌, ◌++◌, drop}
-use Rattle.sm_messages.specs.WrittenHeads.{fields_given}
+use Rattle.sm_rest.specs.messages.WrittenHeads.{fields_given}
 use Rattle.sm_rest_write.proofs.fields.lend_fields.Given as goal
 
 abbrev pub invariant-loop-field : goal.invariant-loop-field

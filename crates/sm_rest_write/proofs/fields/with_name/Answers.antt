@@ -1,7 +1,7 @@
 use Rattle.std.proofs.Common.{◌++◌, ◌∷◌, [], ap, sym, ◌∙◌}
 use Rattle.std.specs.Option.{option_map}
-use Rattle.sm_messages.specs.Names.{error_field_name}
-use Rattle.sm_messages.specs.WrittenHeads.{field_of}
+use Rattle.sm_rest.specs.messages.Names.{error_field_name}
+use Rattle.sm_rest.specs.messages.WrittenHeads.{field_of}
 use Rattle.sm_rest_write.specs.steps.ToldFields.{fields_telling}
 use Rattle.sm_rest_write.proofs.fields.with_name.Goals as goal
 

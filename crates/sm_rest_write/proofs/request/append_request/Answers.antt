@@ -2,9 +2,9 @@ use Rattle.std.proofs.Common.{◌++◌, ap, ◌∙◌}
 use Rattle.sm_bodies.proofs.BodiesFed.{on_ok}
 use Rattle.sm_http.specs.Written.{written}
 use Rattle.sm_shapes.specs.ValueView.{val_of}
-use Rattle.sm_service.specs.ServiceView.{http_data, service_data}
-use Rattle.sm_messages.specs.Goals.{goal_of, the_input}
-use Rattle.sm_bind.specs.BoundView.{bound_of}
+use Rattle.sm_rest.specs.service.ServiceView.{http_data, service_data}
+use Rattle.sm_rest.specs.messages.Goals.{goal_of, the_input}
+use Rattle.sm_rest.specs.bind.BoundView.{bound_of}
 use Rattle.sm_rest_write.proofs.PlacesBound.{carried_there, fits_there, shape_there, shaped_there, structure_there}
 use Rattle.sm_rest_write.proofs.RestMessages.{request_is}
 use Rattle.sm_rest_write.proofs.request.append_request.Goals as goal

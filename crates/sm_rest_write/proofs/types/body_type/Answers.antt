@@ -1,6 +1,6 @@
 use Rattle.std.proofs.Common.{ap, ◌∙◌}
 use Rattle.sm_shapes.specs.TableView.{table_data}
-use Rattle.sm_bind.specs.BoundView.{bound_of}
+use Rattle.sm_rest.specs.bind.BoundView.{bound_of}
 use Rattle.sm_rest.specs.RestGoals.{type_by}
 use Rattle.sm_rest_write.proofs.BodyParts.{part_same}
 use Rattle.sm_rest_write.proofs.types.body_type.Goals as goal

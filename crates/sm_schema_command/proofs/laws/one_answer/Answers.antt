@@ -1,4 +1,4 @@
-use Rattle.sm_asked.proofs.ToldAll.{all_told}
+use Rattle.sm_asked_shape.proofs.asked.ToldAll.{all_told}
 use Rattle.sm_asked_shape.proofs.ShapeComes.{one_over_shape}
 use Rattle.sm_schema_command.specs.Schema.{SchemaSays}
 use Rattle.sm_schema_command.proofs.OneSchema.{schema_same}

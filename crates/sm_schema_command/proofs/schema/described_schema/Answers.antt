@@ -3,7 +3,7 @@ use Rattle.sm_io.specs.Seen.{files_seen}
 use Rattle.sm_model.specs.GraphView.{maps_of}
 use Rattle.sm_compile.specs.Answers.{seen_store}
 use Rattle.sm_compile.specs.Sound.{Sound}
-use Rattle.sm_asked.specs.Stages.{told}
+use Rattle.sm_asked_shape.specs.asked.Stages.{told}
 use Rattle.sm_asked_shape.proofs.ShapesLoaded.{file_stops, shape_loaded, shape_refused}
 use Rattle.sm_asked_shape.proofs.TablesNamed.{table_ready}
 use Rattle.sm_schema_command.proofs.CompiledValues.{loaded_values}

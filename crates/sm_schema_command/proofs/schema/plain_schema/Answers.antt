@@ -1,7 +1,7 @@
 use Rattle.sm_io.specs.Seen.{files_seen}
 use Rattle.sm_compile.specs.Answers.{seen_store}
 use Rattle.std.proofs.Common.{None, false}
-use Rattle.sm_asked.specs.Stages.{told}
+use Rattle.sm_asked_shape.specs.asked.Stages.{told}
 use Rattle.sm_schema_command.proofs.CompiledValues.{loaded_values}
 use Rattle.sm_schema_command.proofs.Schemas.{says_schema, schema_prints, schema_short, schema_stops}
 use Rattle.sm_schema_command.proofs.schema.plain_schema.Goals as goal

@@ -1,8 +1,8 @@
 use Rattle.std.proofs.Common.{sym, subst}
 use Rattle.sm_io.specs.Seen.{files_seen}
 use Rattle.sm_compile.specs.Answers.{seen_store}
-use Rattle.sm_asked.specs.Comes.{CommandComesTo}
-use Rattle.sm_asked.specs.Outside.{inputs_seen}
+use Rattle.sm_asked_shape.specs.asked.Comes.{CommandComesTo}
+use Rattle.sm_asked_shape.specs.asked.Outside.{inputs_seen}
 use Rattle.sm_schema_command.specs.Schema.{schema_asked}
 use Rattle.sm_schema_command.proofs.schema.schema.Goals as goal
 

@@ -1,7 +1,7 @@
 use Rattle.std.proofs.Common.{◌≡◌, ap, sym, subst, ◌∙◌, refl, arith}
-use Rattle.sm_asked.specs.Answer.{code_of}
-use Rattle.sm_asked.specs.declared.status.Status.TheVariants.{ReadFault}
-use Rattle.sm_gateway.specs.GatewayView.{gateway_data}
+use Rattle.sm_asked_gateway.specs.asked.Answer.{code_of}
+use Rattle.sm_asked_gateway.specs.asked.declared.status.Status.TheVariants.{ReadFault}
+use Rattle.sm_asked_gateway.specs.gateway.GatewayView.{gateway_data}
 use Rattle.sm_serve.specs.Links.{HasServed}
 use Rattle.sm_serve.proofs.LinksServed.{all_served, next_served, none_served}
 use Rattle.sm_serve.proofs.links.serve_links.Goals as goal

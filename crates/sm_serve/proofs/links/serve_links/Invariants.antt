@@ -1,6 +1,6 @@
 -- So many links were served; the store is as it was, and no count of the doors fell.
 use Rattle.std.proofs.Common.{◌≡◌, ◌≤◌}
-use Rattle.sm_gateway.specs.GatewayView.{gateway_data}
+use Rattle.sm_asked_gateway.specs.gateway.GatewayView.{gateway_data}
 use Rattle.sm_serve.specs.Links.{HasServed}
 use Rattle.sm_serve.proofs.links.serve_links.Given as goal
 

@@ -1,6 +1,6 @@
 use Rattle.std.proofs.Common.{inl, inr, ap, refl, subst}
 use Rattle.sm_doors.specs.DoorsSeen.{DoorsSeen}
-use Rattle.sm_gateway.specs.GatewayView.{gateway_data}
+use Rattle.sm_asked_gateway.specs.gateway.GatewayView.{gateway_data}
 use Rattle.sm_serve.specs.Links.{ServesLinks}
 use Rattle.sm_serve.proofs.LinksServed.{served_earlier}
 use Rattle.sm_serve.proofs.serving.listen_and_serve.Goals as goal

@@ -1,7 +1,7 @@
 use Rattle.std.proofs.Common.{inl, inr, refl}
 use Rattle.sm_io.specs.Seen.{files_seen}
 use Rattle.sm_compile.specs.Answers.{seen_store}
-use Rattle.sm_gateway.specs.GatewayView.{gateway_data}
+use Rattle.sm_asked_gateway.specs.gateway.GatewayView.{gateway_data}
 use Rattle.sm_serve.specs.ServeView.{serve_said}
 use Rattle.sm_serve.proofs.ServesWhole.{served_whole}
 use Rattle.sm_serve.proofs.serving.serve.Goals as goal

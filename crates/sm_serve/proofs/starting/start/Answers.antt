@@ -1,7 +1,7 @@
 use Rattle.std.proofs.Common.{ap, ◌∙◌}
 use Rattle.sm_io.specs.Seen.{files_seen}
 use Rattle.sm_compile.specs.Answers.{seen_store}
-use Rattle.sm_asked.specs.Answer.{code_of}
+use Rattle.sm_asked_gateway.specs.asked.Answer.{code_of}
 use Rattle.sm_serve.specs.ServeView.{serve_said}
 use Rattle.sm_serve.specs.steps.StopStatuses.{stop_status}
 use Rattle.sm_serve.proofs.StartStops.{stops_so}

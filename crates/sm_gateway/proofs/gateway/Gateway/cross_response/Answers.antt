@@ -1,5 +1,5 @@
-use Rattle.sm_messages.specs.Answers.{reply_role, reply_val}
-use Rattle.sm_messages.specs.Goals.{a_response, goal_of}
+use Rattle.sm_protocols.specs.messages.Answers.{reply_role, reply_val}
+use Rattle.sm_protocols.specs.messages.Goals.{a_response, goal_of}
 use Rattle.sm_gateway.specs.GatewayData.{back_form, front_form}
 use Rattle.sm_gateway.specs.GatewayView.{gateway_data}
 use Rattle.sm_gateway.proofs.GatewayLaws.{operation_other_way, other_way}

@@ -1,5 +1,5 @@
-use Rattle.sm_messages.specs.Answers.{reply_role, reply_val}
-use Rattle.sm_messages.specs.Goals.{goal_of}
+use Rattle.sm_protocols.specs.messages.Answers.{reply_role, reply_val}
+use Rattle.sm_protocols.specs.messages.Goals.{goal_of}
 use Rattle.sm_gateway.specs.GatewayView.{gateway_data}
 use Rattle.sm_gateway.specs.steps.Reading.{both_spoken}
 use Rattle.sm_gateway.proofs.MessagesFinished.{reply_stays, reply_told, reply_value}

@@ -1,5 +1,5 @@
 use Rattle.sm_shapes.specs.ValueView.{val_of}
-use Rattle.sm_messages.specs.Goals.{goal_of, the_input}
+use Rattle.sm_protocols.specs.messages.Goals.{goal_of, the_input}
 use Rattle.sm_gateway.specs.GatewayData.{back_form, front_form}
 use Rattle.sm_gateway.specs.GatewayView.{gateway_data}
 use Rattle.sm_gateway.specs.steps.Reading.{both_spoken}

@@ -1,4 +1,4 @@
-use Rattle.sm_service.specs.ServiceView.{service_data}
+use Rattle.sm_awsjson.specs.service.ServiceView.{service_data}
 use Rattle.sm_protocols.specs.declared.body.ProtocolBody.TheVariants.{Aws, Rpc}
 use Rattle.sm_protocols.specs.declared.spoken.Spoken.TheVariants.{AwsJson10, AwsJson11, RpcV2Cbor}
 use Rattle.sm_protocols.proofs.KeptRest.{rest_serves}

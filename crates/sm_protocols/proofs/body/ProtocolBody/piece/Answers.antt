@@ -1,6 +1,6 @@
 use Rattle.std.proofs.Common.{refl}
 use Rattle.std.proofs.lemmas.Result.{on_ok_weaker}
-use Rattle.sm_service.specs.ServiceView.{service_data}
+use Rattle.sm_awsjson.specs.service.ServiceView.{service_data}
 use Rattle.sm_protocols.specs.declared.body.ProtocolBody.TheVariants.{Aws, Rpc}
 use Rattle.sm_protocols.specs.declared.spoken.Spoken.TheVariants.{AwsJson10, AwsJson11, RpcV2Cbor}
 use Rattle.sm_protocols.proofs.ProtocolsTaken.{on_of}

@@ -1,4 +1,4 @@
-use Rattle.sm_service.specs.ServiceView.{service_data}
+use Rattle.sm_bind_read.specs.service.ServiceView.{service_data}
 use Rattle.sm_rest.proofs.RestReads.{named_as_asked}
 use Rattle.sm_rest.proofs.context.Rest.operation_of.Goals as goal
 

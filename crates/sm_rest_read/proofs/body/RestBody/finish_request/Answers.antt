@@ -1,12 +1,12 @@
 use Rattle.std.proofs.Common.{subst}
 use Rattle.std.specs.Prelude.{Err, Ok}
-use Rattle.sm_service.specs.ServiceView.{service_data}
-use Rattle.sm_messages.specs.Goals.{a_request, goal_of, the_input}
-use Rattle.sm_messages.specs.HeadAnswers.{to_goal}
-use Rattle.sm_messages.specs.Heads.{is_empty}
-use Rattle.sm_messages.specs.IsForm.{ServesOperation}
-use Rattle.sm_bind.specs.BindingsView.{bindings_data, parts_data}
-use Rattle.sm_bind.specs.BoundView.{bound_of}
+use Rattle.sm_rest.specs.service.ServiceView.{service_data}
+use Rattle.sm_rest.specs.messages.Goals.{a_request, goal_of, the_input}
+use Rattle.sm_rest.specs.messages.HeadAnswers.{to_goal}
+use Rattle.sm_rest.specs.messages.Heads.{is_empty}
+use Rattle.sm_rest.specs.messages.IsForm.{ServesOperation}
+use Rattle.sm_rest.specs.bind.BindingsView.{bindings_data, parts_data}
+use Rattle.sm_rest.specs.bind.BoundView.{bound_of}
 use Rattle.sm_rest.specs.RestForm.{rest_form}
 use Rattle.sm_rest_read.specs.Begun.{RestBegun, RestFed, RestHeld}
 use Rattle.sm_rest_read.proofs.PlacesJoined.{body_there, joinable, joins_there, pass_at, stored_at}

@@ -1,5 +1,5 @@
 use Rattle.std.proofs.Common.{◌≡◌, rules, subst}
-use Rattle.sm_service.specs.ServiceView.{service_data}
+use Rattle.sm_rest.specs.service.ServiceView.{service_data}
 use Rattle.sm_rest_read.specs.Begun.{TakesRest, rest_codec}
 use Rattle.sm_rest_read.proofs.RestBodies.{rest_begun_on}
 use Rattle.sm_rest_read.proofs.body.RestBody.piece.Goals as goal

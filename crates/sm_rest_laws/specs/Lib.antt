@@ -1,0 +1,1 @@
+pub use Rattle.sm_rest.specs as rest
