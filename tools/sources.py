@@ -8,6 +8,7 @@ import os
 import re
 
 TOP = os.path.dirname(os.path.dirname(os.path.abspath(__file__)))
+HANDED_ON = re.compile(r'^pub use Rattle\.(\w+)\.(specs|proofs)(?:\.(\w+)| as (\w+))$', re.M)
 USE = re.compile(r'^\s*(?:pub )?(?:ghost )?use Rattle\.(\w+)\.(specs|proofs)\.([\w.+-]+?)(?: as ([\w-]+))?(?:\.\{([^}]*)\})?;?\s*$')
 TYPE = re.compile(r'(?:abbrev )?(?:pub )?(?:data|record) ([^\s:({]+)')
 WORD = re.compile(r'(?:abbrev )?(?:pub )?([^\s:({]+)\s*:(?!=)')
@@ -36,6 +37,22 @@ def crates():
 
 
 @functools.cache
+def handed_on(crate, kind):
+    """What a crate hands on of those below it: by its name there, the crate, and its name in that crate (none where it's the crate itself)."""
+    found = HANDED_ON.findall(read_if_there(f'crates/{crate}/{kind}/Lib.antt'))
+    return {alias or name: (below, name) for below, of, name, alias in found if of == kind}
+
+
+def place_of(crate, kind, module):
+    """The crate and the module that a path leads to, through crates that hand it on."""
+    first, _, rest = module.partition('.')
+    below, name = handed_on(crate, kind).get(first, (None, None))
+    if below is None:
+        return crate, module
+    return place_of(below, kind, f'{name}.{rest}' if name else rest)
+
+
+@functools.cache
 def imports_of(text):
     """Each name that a text imports: the crate, the module, and its word there (none where the name is the module's)."""
     names = {}
@@ -43,6 +60,7 @@ def imports_of(text):
         found = USE.match(line)
         if found:
             crate, kind, module, alias, words = found.groups()
+            crate, module = place_of(crate, kind, module)
             if alias:
                 names[alias] = (crate, f'{kind}.{module}', None)
             for word in (words or '').split(','):
