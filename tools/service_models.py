@@ -1,4 +1,4 @@
-"""Models of one service, to measure `service_speed` with: at half of what a graph may hold, and at the whole."""
+"""Models of one service, to measure `speeds service` with: at half of what a graph may hold, and at the whole."""
 from model_parts import API, S, big, member_of, operation_of, service, structure_of
 
 

@@ -1,8 +1,0 @@
-use Rattle.sm_http.specs.Calls.{IsWithinLimit, data_room}
-use Rattle.message_speed.proofs.turns.piece_sum.Given as goal
-
-abbrev pub invariant-loop-count : goal.invariant-loop-count
-invariant-loop-count g l = IsWithinLimit l.left
-
-abbrev pub decreases-loop-count : goal.decreases-loop-count
-decreases-loop-count g l = data_room l.left

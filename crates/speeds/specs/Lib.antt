@@ -1,0 +1,5 @@
+pub mod FormatCommands
+pub mod FormatTurns
+pub mod ModelTurns
+pub mod HttpCommands
+pub mod HttpTurns
