@@ -6,8 +6,18 @@ import sys
 import time
 
 
+AT_ONCE = 100
+
+
 def head(start, fields, body):
     return '\r\n'.join([start, *fields, f'content-length: {len(body)}', '', '']).encode() + body
+
+
+def spent(process):
+    """Seconds of the processor that a process has had that waits by now."""
+    time.sleep(0.2)
+    with open(f'/proc/{process}/schedstat', encoding='ascii') as told:
+        return int(told.read().split()[0]) / 1e9
 
 
 class Room:
@@ -62,6 +72,34 @@ class Room:
             self.put(asked, answered, number)
             least.append(min(self.once(words) for _ in range(runs)))
         return (least[1] - least[0]) / turns * 1e6
+
+    def turn_loaded(self, front, back, asked, answered, turns):
+        """The same of one run, behind a first turn: for models that take longer to load than turns. Each answer is a head alone."""
+        self.put(b'', answered, turns + 1)
+        run = subprocess.Popen(self.words(front, back), cwd=self.folder, stdin=subprocess.PIPE, stdout=subprocess.PIPE)
+        self.ask(run, asked, 1)
+        before = spent(run.pid)
+        for done in range(0, turns, AT_ONCE):
+            self.ask(run, asked, min(AT_ONCE, turns - done))
+        took = spent(run.pid) - before
+        run.stdin.close()
+        if run.wait():
+            sys.exit(f'{" ".join(run.args)} ends with {run.returncode}')
+        return took / turns * 1e6
+
+    @staticmethod
+    def ask(run, asked, times):
+        """Requests that are answered with 200, so few that pipes hold them."""
+        run.stdin.write(asked * times)
+        run.stdin.flush()
+        seen = b''
+        while seen.count(b'\r\n\r\n') < times:
+            piece = run.stdout.read1(65_536)
+            if not piece:
+                sys.exit(f'{" ".join(run.args)} ends behind {seen[-200:]}')
+            seen += piece
+        if seen.count(b'HTTP/1.1 200 OK\r\n') != times:
+            sys.exit(f'{" ".join(run.args)} answers {seen[:200]}')
 
     def counted(self, front, back, asked, answered, turns):
         """Instructions of a turn."""

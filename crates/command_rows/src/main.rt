@@ -14,7 +14,7 @@ use sm_tree::NoMemory;
 use std::fs;
 
 // The files of rows: that of words of no form, and one for each command.
-const FILES: [&str; 7] = [
+const FILES: [&str; 8] = [
     "words.rows",
     "body.rows",
     "check.rows",
@@ -22,6 +22,7 @@ const FILES: [&str; 7] = [
     "cross.rows",
     "schema.rows",
     "select.rows",
+    "transform.rows",
 ];
 
 fn main(rt: HostRuntime) -> anyhow::Result<()> {

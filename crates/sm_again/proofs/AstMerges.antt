@@ -24,7 +24,7 @@ use Rattle.sm_ast.specs.PartsSaid.{pairs_said}
 use Rattle.sm_ids.proofs.TextCuts.{member_named}
 use Rattle.sm_merge.specs.Meaning.{Defined, members_meant, node_meant, nodes_meant}
 use Rattle.sm_model.specs.Used.{shape_part}
-use Rattle.sm_merge.specs.Restated.{IsMemberIn, IsShapeIn, StatesPart}
+use Rattle.sm_merge.specs.Restated.{ComesTo, IsMemberIn, IsShapeIn, StatesPart}
 use Rattle.sm_merge.specs.Stated.{all_said, body_of, defined_among, is_empty, member_stated, shape_with_ids, stated_by, traits_stated}
 use Rattle.sm_merge.proofs.BodiesAgain.{SaysForms, body_again, forms_said, one_said, pairs_or_none}
 use Rattle.sm_merge.proofs.RegularGraphs.{IsRegular, IsRegularShape, merged_regular}
@@ -203,12 +203,14 @@ or_true : (b : Bool) → (b || true) ≡ true
 or_true true = refl
 or_true false = refl
 
+pub said_again : (g : GraphMaps) → IsRegular g → ComesTo (stated_by (graph_said g ∷ [])) g
+said_again g regular =
+    part_again g g all (stated_by (graph_said g ∷ [])) regular (state_part g regular) (record {
+      shapes = λ id e. (λ found. (found, or_true (is_prelude_id (shape_part id))), λ there. there.0);
+      metadata = λ key n. (λ found. found, λ found. found);
+    })
+
 pub ast_merges : AstMerges
 ast_merges files graph formed merged =
     let g = maps_of graph in
-    let regular = merged_regular files formed g merged.0 in
-    let comes = part_again g g all (stated_by (graph_said g ∷ [])) regular (state_part g regular) (record {
-      shapes = λ id e. (λ found. (found, or_true (is_prelude_id (shape_part id))), λ there. there.0);
-      metadata = λ key n. (λ found. found, λ found. found);
-    }) in
-    (comes.graph, merged.1, comes.nothing_wrong)
+    let comes = said_again g (merged_regular files formed g merged.0) in (comes.graph, merged.1, comes.nothing_wrong)

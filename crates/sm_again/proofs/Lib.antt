@@ -7,3 +7,11 @@ mod WrittenMerges
 mod NamesFormed
 mod MergedShapes
 mod WrittenTexts
+pub mod JsonGraphs
+mod GraphNamed
+pub mod GraphLoads
+mod SameLoads
+mod EnumTargets
+mod WrittenUtf8
+mod IdlUtf8
+mod IdlLoads

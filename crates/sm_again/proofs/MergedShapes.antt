@@ -57,7 +57,7 @@ no_members : (ms : List MemberGiven) → none_inside ms ≡ true → ms ≡ []
 no_members [] h = refl
 no_members (m ∷ ms) h = absurd (subst (λ c. cond c ⊥ (Unit {0})) h tt)
 
-abbrev IsPlainEntry : List ℕ → Entry → Type 0
+abbrev pub IsPlainEntry : List ℕ → Entry → Type 0
 IsPlainEntry id (shape_entry s) =
     IsShapeId id × (s.members ≡ []) × HaveForm (member_form s.kind) [] × HasShapeBody s.kind s.properties
 IsPlainEntry id (member_entry m) = ⊥
@@ -81,7 +81,7 @@ plain_shapes_are (s ∷ ss) h test =
     let parts = and_parts (none_inside s.members) (list_all (λ (t : ShapeGiven). none_inside t.members) ss) test in
     each_joined IsPlainEntry (given_shape s) (given_entries ss) (plain_shape s h.0 parts.0) (plain_shapes_are ss h.1 parts.1)
 
-prelude_plain : (id : List ℕ) (e : Entry) → IsOfPrelude id e → IsPlainEntry id e
+pub prelude_plain : (id : List ℕ) (e : Entry) → IsOfPrelude id e → IsPlainEntry id e
 prelude_plain id e h =
     has_each IsPlainEntry id e (given_entries prelude_shapes) (plain_shapes_are prelude_shapes prelude_given.each refl)
     (made_has (given_entries prelude_shapes) id e h)

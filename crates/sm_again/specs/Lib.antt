@@ -1,3 +1,4 @@
 pub mod AstMerges
 pub mod WrittenMerges
 pub mod WrittenTexts
+pub mod LoadsAgain

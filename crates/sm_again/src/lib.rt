@@ -2,6 +2,8 @@
 // nothing: their contracts are the laws.
 #![tactic(auto)]
 
+pub mod laws;
+
 ghost use Rattle.sm_again.specs.AstMerges.{AstMerges};
 ghost use Rattle.sm_again.specs.WrittenMerges.{WrittenAgain, WrittenMerges};
 ghost use Rattle.sm_again.specs.WrittenTexts.{ReadMerges, WrittenTexts};

@@ -11,8 +11,10 @@ use Rattle.sm_cross_command.specs.CrossWords.{CrossAsked, IsCrossForm, words_beh
 use Rattle.sm_cross_command.proofs.CrossForms.{cross_words_same}
 use Rattle.sm_schema_command.specs.SchemaForm.{IsSchemaForm, described_words, names_word}
 use Rattle.sm_schema_command.proofs.NamesWords.{schema_words_same}
+use Rattle.sm_transform_command.specs.TransformForm.{ChangeAsked, IsTransformForm, argument_word, verb_word}
+use Rattle.sm_transform_command.proofs.TransformForms.{transform_words_same}
 use Rattle.sm_commands.specs.Commands.{Command, body_command, check_command, convert_command, cross_command, schema_command, select_command}
-use Rattle.sm_commands.specs.Commands.{IsCommandForm, IsNoForm, OneCommandForm, first_word}
+use Rattle.sm_commands.specs.Commands.{IsCommandForm, IsNoForm, OneCommandForm, first_word, transform_command}
 
 -- words that are told apart differ
 apart : (a b : List ℕ) → bytes_eq a b ≡ false → a ≡ b → ⊥
@@ -26,6 +28,7 @@ begins words (convert_command models form) h = (models ++ h.last ∷ [], h.over.
 begins words (select_command models selector) h = (models ++ selector ∷ [], h.are)
 begins words (schema_command model shape json_names described) h = (model ∷ shape ∷ names_word json_names ∷ described_words described, h)
 begins words (cross_command w) h = (w.models ++ words_behind w, h.are.are)
+begins words (transform_command models asked) h = (models ++ verb_word asked ∷ argument_word asked ∷ [], h.are)
 
 first_same : (words : List (List ℕ)) (x y : Command) → IsCommandForm words x → IsCommandForm words y → first_word x ≡ first_word y
 first_same words x y h i =
@@ -53,6 +56,9 @@ one_form words (schema_command model shape json_names described) (schema_command
     ∙ ap (λ x. schema_command model1 shape1 x described) both.same_names
     ∙ ap (λ x. schema_command model1 shape1 json_names1 x) both.same_described
 one_form words (cross_command w) (cross_command v) h i = ap cross_command (cross_words_same words w v h i)
+one_form words (transform_command models asked) (transform_command models1 asked1) h i =
+    let both = transform_words_same words models models1 asked asked1 h i in
+    ap (λ ms. transform_command ms asked) both.0 ∙ ap (λ x. transform_command models1 x) both.1
 one_form words x y h i = absurd (apart (first_word x) (first_word y) refl (first_same words x y h i))
 
 -- words of no command's form
@@ -61,12 +67,15 @@ pub no_form : (words : List (List ℕ)) → ((models : List (List ℕ)) → IsCh
     → ((models : List (List ℕ)) (form : GraphForm) → IsConvertForm words models form → ⊥)
     → ((models : List (List ℕ)) (selector : List ℕ) → IsSelectForm words models selector → ⊥)
     → ((model shape : List ℕ) (json_names described : Bool) → IsSchemaForm words model shape json_names described → ⊥)
-    → ((w : CrossAsked) → IsCrossForm words w → ⊥) → IsNoForm words
-no_form words no_check no_body no_convert no_select no_schema no_cross (check_command models) h = no_check models h
-no_form words no_check no_body no_convert no_select no_schema no_cross (body_command model shape near far) h =
+    → ((w : CrossAsked) → IsCrossForm words w → ⊥)
+    → ((models : List (List ℕ)) (asked : ChangeAsked) → IsTransformForm words models asked → ⊥) → IsNoForm words
+no_form words no_check no_body no_convert no_select no_schema no_cross no_transform (check_command models) h = no_check models h
+no_form words no_check no_body no_convert no_select no_schema no_cross no_transform (body_command model shape near far) h =
     no_body model shape near far h
-no_form words no_check no_body no_convert no_select no_schema no_cross (convert_command models form) h = no_convert models form h
-no_form words no_check no_body no_convert no_select no_schema no_cross (select_command models selector) h = no_select models selector h
-no_form words no_check no_body no_convert no_select no_schema no_cross (schema_command model shape json_names described) h =
+no_form words no_check no_body no_convert no_select no_schema no_cross no_transform (convert_command models form) h = no_convert models form h
+no_form words no_check no_body no_convert no_select no_schema no_cross no_transform (select_command models selector) h = no_select models selector h
+no_form words no_check no_body no_convert no_select no_schema no_cross no_transform (schema_command model shape json_names described) h =
     no_schema model shape json_names described h
-no_form words no_check no_body no_convert no_select no_schema no_cross (cross_command w) h = no_cross w h
+no_form words no_check no_body no_convert no_select no_schema no_cross no_transform (cross_command w) h = no_cross w h
+no_form words no_check no_body no_convert no_select no_schema no_cross no_transform (transform_command models asked) h =
+    no_transform models asked h

@@ -12,6 +12,8 @@ use Rattle.sm_cross_command.specs.Cross.{cross_asked}
 use Rattle.sm_cross_command.specs.CrossWords.{CrossAsked, IsCrossForm}
 use Rattle.sm_schema_command.specs.Schema.{schema_asked}
 use Rattle.sm_schema_command.specs.SchemaForm.{IsSchemaForm}
+use Rattle.sm_transform_command.specs.Transform.{transform_asked}
+use Rattle.sm_transform_command.specs.TransformForm.{ChangeAsked, IsTransformForm}
 
 pub data Command : Type 0 where
   -- check MODEL+
@@ -26,6 +28,8 @@ pub data Command : Type 0 where
   schema_command : (model shape : List ℕ) → (json_names described : Bool) → Command
   -- cross MODEL+ SERVICE FRONT BACK HOST BACKFILE OUTFILE
   cross_command : (words : CrossAsked) → Command
+  -- transform MODEL+ VERB ARG
+  transform_command : (models : List (List ℕ)) → (asked : ChangeAsked) → Command
 
 -- the words have the form of the command
 abbrev pub IsCommandForm : List (List ℕ) → Command → Type 0
@@ -35,6 +39,7 @@ IsCommandForm words (convert_command models form) = IsConvertForm words models f
 IsCommandForm words (select_command models selector) = IsSelectForm words models selector
 IsCommandForm words (schema_command model shape json_names described) = IsSchemaForm words model shape json_names described
 IsCommandForm words (cross_command w) = IsCrossForm words w
+IsCommandForm words (transform_command models asked) = IsTransformForm words models asked
 
 -- what it asks
 abbrev pub asked_of : Command → CommandAsked
@@ -44,6 +49,7 @@ asked_of (convert_command models form) = convert_asked models form
 asked_of (select_command models selector) = select_asked models selector
 asked_of (schema_command model shape json_names described) = schema_asked model shape json_names described
 asked_of (cross_command w) = cross_asked w
+asked_of (transform_command models asked) = transform_asked models asked
 
 -- its first word
 abbrev pub first_word : Command → List ℕ
@@ -53,6 +59,7 @@ first_word (convert_command models form) = codes "convert"
 first_word (select_command models selector) = codes "select"
 first_word (schema_command model shape json_names described) = codes "schema"
 first_word (cross_command w) = codes "cross"
+first_word (transform_command models asked) = codes "transform"
 
 -- the words have the form of none
 abbrev pub IsNoForm : List (List ℕ) → Type 0

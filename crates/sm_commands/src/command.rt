@@ -24,6 +24,7 @@ use sm_model_commands::select::select;
 use sm_model_commands::sm_asked::{CommandStop, Status};
 use sm_schema_command::schema::schema;
 use sm_shapes::Patterns;
+use sm_transform_command::transform::transform;
 use sm_tree::Text;
 use std::alloc::Global;
 
@@ -35,7 +36,8 @@ fn come_to<F: Files, S: Source, P: Patterns>(
     input: &mut S,
     patterns: &mut P,
 ) -> Result<Vec<u8>, CommandStop>
-    requires { (name : List ℕ) → Contains (asked_of (whole_command form)).reads name → F.lets_read files.old name }
+    requires formed { (words : List (List ℕ)) × IsCommandForm words (whole_command form) }
+    requires reads { (name : List ℕ) → Contains (asked_of (whole_command form)).reads name → F.lets_read files.old name }
     ensures comes { let before = inputs_seen (files_seen (F.held files.old) (F.read_faults files.old) (F.write_faults files.old))
         (stream (S.left input.old) (S.faults input.old))
         P.test (seen_store (P.added patterns.old) (P.refused patterns.old) (P.refusals patterns.old)) in
@@ -58,6 +60,7 @@ fn come_to<F: Files, S: Source, P: Patterns>(
         WholeForm::Convert(words) => convert(alloc, words, files),
         WholeForm::Select(words) => select(alloc, words, files),
         WholeForm::Schema(words) => schema(alloc, words, files, patterns),
+        WholeForm::Transform(words) => transform(alloc, words, files),
     }
 }
 
@@ -117,7 +120,9 @@ fn carry_out<F: Files, S: Source, K: Sink, P: Patterns>(
 /// too. `cross MODEL+ SERVICE FRONT BACK HOST BACKFILE OUTFILE` runs a session of a gateway over the input, whose answers are put, and over
 /// the answers of the back in BACKFILE; the requests to the back are written to OUTFILE. Its status is that of the session's end: closed
 /// (0), ended or broken off by the front or the back (1), past the most turns (7); before it the models, the service (1), a pattern that it
-/// reaches (6) and the length of BACKFILE (7) are refused.
+/// reaches (6) and the length of BACKFILE (7) are refused. `transform MODEL+ VERB ARG` prints the graph of model files after a change as
+/// its one text of the JSON AST (0): VERB and ARG are `include` or `exclude` with a selector, or `rename` with `A=B`; what `convert` refuses
+/// is refused here too, and then a text that is no selector, a namespace that gets no other name, and a changed graph that a rule rejects (1).
 ///
 /// 2: the words have no form, and nothing is touched. 3: a read of a file or of the input failed, and nothing is put, but by `cross` the
 /// answers to what was read. 4: the output failed, and holds a prefix of what was to be put, or OUTFILE couldn't be written. 5: memory ran

@@ -18,6 +18,7 @@ pub fn one_answer()
     sm_body_command::laws::one_answer();
     sm_schema_command::laws::one_answer();
     sm_cross_command::laws::one_answer();
+    sm_transform_command::laws::one_answer();
 }
 
 /// Where its files are there a command comes to an answer, whatever they and the input hold: what `run` says leaves no case to `NoMemory`.
@@ -28,6 +29,7 @@ pub fn some_answer()
     sm_body_command::laws::some_answer();
     sm_schema_command::laws::some_answer();
     sm_cross_command::laws::some_answer();
+    sm_transform_command::laws::some_answer();
 }
 
 /// Where the words have a form and no count of faults rose, the answer is put, or memory ran out.

@@ -9,6 +9,7 @@ use sm_model_commands::{
     CheckWords, ConvertWords, SelectWords, check_words, convert_words, select_words,
 };
 use sm_schema_command::{SchemaWords, schema_words};
+use sm_transform_command::{TransformWords, transform_words};
 use sm_tree::Text;
 
 /// The forms of commands that put their answer as one piece and write no file.
@@ -24,6 +25,8 @@ pub enum WholeForm<'a> {
     Select(SelectWords<'a>),
     /// `schema MODELFILE SHAPE NAMES`, behind which `described` may stand.
     Schema(SchemaWords<'a>),
+    /// `transform MODEL+ VERB ARG`.
+    Transform(TransformWords<'a>),
 }
 
 /// The forms that words may have.
@@ -56,6 +59,9 @@ pub(crate) fn form_of(words: &[Text]) -> Option<CommandForm<'_>>
     }
     if let Some(words) = cross_words(words) {
         return Some(CommandForm::Cross(words));
+    }
+    if let Some(words) = transform_words(words) {
+        return Some(CommandForm::Whole(WholeForm::Transform(words)));
     }
     None
 }

@@ -23,7 +23,7 @@ pairs_json : (ps : List (List ℕ × Node)) → Each (IsNamedNode IsUtf8) ps →
 pairs_json [] h = tt
 pairs_json (p ∷ ps) h = (h.0.0, h.0.1.0, pairs_json ps h.1)
 
-traits_json : (m : NodeMap) → HoldsNamed m → AreJsonPairs (fin.entries m)
+pub traits_json : (m : NodeMap) → HoldsNamed m → AreJsonPairs (fin.entries m)
 traits_json m h =
     pairs_json (fin.entries m) (each_has (IsNamedNode IsUtf8) (fin.entries m) (λ t n there.
     let held = h t n (has_get m t n there) in (id_utf8 t held.0, held.1)))
@@ -38,12 +38,17 @@ entry_json id (member_entry m) h = (
   traits_json m.traits h.2,
 )
 
+pub metadata_json : (said : List (List Said)) (g : GraphMaps) → AreFormedFiles said → IsGraphOf (stated_by said) g
+    → AreJsonPairs (fin.entries g.metadata)
+metadata_json said g formed of =
+    pairs_json (fin.entries g.metadata) (each_has (IsNamedNode IsUtf8) (fin.entries g.metadata)
+    (λ k n there. metadata_named said formed k n ((of.metadata k n).0 (has_get g.metadata k n there))))
+
 graph_json : (said : List (List Said)) (g : GraphMaps) → AreFormedFiles said → IsGraphOf (stated_by said) g → IsJson (written_ast g)
 graph_json said g formed of = written_json g (record {
   shapes = each_has EntryIsJson (fin.entries g.shapes)
       (λ k e there. entry_json k e (stands_sound said formed k e ((of.shapes k e).0 (has_get g.shapes k e there))));
-  metadata = pairs_json (fin.entries g.metadata) (each_has (IsNamedNode IsUtf8) (fin.entries g.metadata)
-      (λ k n there. metadata_named said formed k n ((of.metadata k n).0 (has_get g.metadata k n there))));
+  metadata = metadata_json said g formed of;
 })
 
 pub loaded_json : (files : Option Folder) (names : List (List ℕ)) (l : Loaded files names) → IsJson (written_ast l.graph)

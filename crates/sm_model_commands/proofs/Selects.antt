@@ -16,8 +16,9 @@ use Rattle.sm_select.specs.declared.selector.Selector.{Selector}
 use Rattle.sm_asked.specs.Answer.{done}
 use Rattle.sm_model_commands.specs.SelectLines.{broken_selector_line, id_lines, other_selector_line}
 use Rattle.sm_asked.specs.Loading.{LoadAnswers, Loads}
-use Rattle.sm_model_commands.specs.Select.{SelectorSays, SelectSays, Selects}
-use Rattle.sm_model_commands.specs.Select.SelectorSays.{breaks, leaves, picks}
+use Rattle.sm_model_commands.specs.Select.{NoSelectorSays, SelectorSays, SelectSays, Selects}
+use Rattle.sm_model_commands.specs.Select.NoSelectorSays.{breaks, leaves}
+use Rattle.sm_model_commands.specs.Select.SelectorSays.{no_selector, picks}
 use Rattle.sm_model_commands.specs.Select.SelectSays.{not_loaded, selected}
 use Rattle.sm_asked.specs.Comes.{EndsWithLine, StepComesTo, StepStops}
 use Rattle.sm_asked.specs.declared.stop.CommandStop.{CommandStop}
@@ -25,15 +26,21 @@ use Rattle.sm_asked.specs.declared.lines.Shown.TheVariants.{Errors}
 use Rattle.sm_asked.proofs.Stops.{line_stops, stops_map, comes_map}
 
 -- a text that is no selector
-pub broken_told : (g : GraphMaps) (text : List ℕ) (at : ℕ) (stop : CommandStop) → ParsesSelector text (Err (Syntax at))
-    → EndsWithLine (broken_selector_line at) stop → StepStops (SelectorSays g text) ⊥ (Unit {0}) stop
-broken_told g text at stop is ends =
-    line_stops (SelectorSays g text) ⊥ (Unit {0}) (broken_selector_line at) stop (breaks at is refl) tt ends
+pub broken_told : (text : List ℕ) (at : ℕ) (stop : CommandStop) → ParsesSelector text (Err (Syntax at))
+    → EndsWithLine (broken_selector_line at) stop → StepStops (NoSelectorSays text) ⊥ (Unit {0}) stop
+broken_told text at stop is ends =
+    line_stops (NoSelectorSays text) ⊥ (Unit {0}) (broken_selector_line at) stop (breaks at is refl) tt ends
 
-pub other_told : (g : GraphMaps) (text : List ℕ) (at : ℕ) (stop : CommandStop) → ParsesSelector text (Err (OutOfProfile at))
-    → EndsWithLine (other_selector_line at) stop → StepStops (SelectorSays g text) ⊥ (Unit {0}) stop
-other_told g text at stop is ends =
-    line_stops (SelectorSays g text) ⊥ (Unit {0}) (other_selector_line at) stop (leaves at is refl) tt ends
+pub other_told : (text : List ℕ) (at : ℕ) (stop : CommandStop) → ParsesSelector text (Err (OutOfProfile at))
+    → EndsWithLine (other_selector_line at) stop → StepStops (NoSelectorSays text) ⊥ (Unit {0}) stop
+other_told text at stop is ends =
+    line_stops (NoSelectorSays text) ⊥ (Unit {0}) (other_selector_line at) stop (leaves at is refl) tt ends
+
+pub none_told : (g : GraphMaps) (text : List ℕ) (stop : CommandStop) → StepStops (NoSelectorSays text) ⊥ (Unit {0}) stop
+    → StepStops (SelectorSays g text) ⊥ (Unit {0}) stop
+none_told g text stop h =
+    stops_map (NoSelectorSays text) (SelectorSays g text) ⊥ ⊥ (Unit {0}) (Unit {0}) stop (λ a says. no_selector says) (λ never. never)
+    (λ short. short) h
 
 -- the ids of a selector
 pub picked_told : (g : GraphMaps) (text : List ℕ) (selector : Selector) (lines : Vec ℕ) → ParsesSelector text (Ok selector)

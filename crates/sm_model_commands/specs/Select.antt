@@ -15,10 +15,14 @@ use Rattle.sm_model_commands.specs.SelectLines.{broken_selector_line, other_sele
 use Rattle.sm_asked.specs.Loading.{Loaded, LoadAnswers}
 use Rattle.sm_asked.specs.declared.lines.Shown.TheVariants.{Errors}
 
--- what a text comes to for a graph: the place at which it is no selector, or the ids that it picks, in order, one a line
+-- the answer to a text that is no selector: its place
+pub data NoSelectorSays (text : List ℕ) (a : Answer) : Type 0 where
+  breaks : (at : ℕ) → BreaksBy text at → a ≡ refused (broken_selector_line at) → NoSelectorSays text a
+  leaves : (at : ℕ) → LeavesProfile text at → a ≡ refused (other_selector_line at) → NoSelectorSays text a
+
+-- what a text comes to for a graph: that answer, or the ids that it picks, in order, one a line
 pub data SelectorSays (g : GraphMaps) (text : List ℕ) (a : Answer) : Type 0 where
-  breaks : (at : ℕ) → BreaksBy text at → a ≡ refused (broken_selector_line at) → SelectorSays g text a
-  leaves : (at : ℕ) → LeavesProfile text at → a ≡ refused (other_selector_line at) → SelectorSays g text a
+  no_selector : NoSelectorSays text a → SelectorSays g text a
   picks : (steps : Steps) → SelectorText steps text → (ids : List (List ℕ)) → ArePicked g steps ids → a ≡ done (id_lines ids)
       → SelectorSays g text a
 

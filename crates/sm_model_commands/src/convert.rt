@@ -30,8 +30,8 @@ fn graph_text(alloc: Global, graph: Graph, form: ConvertForm<'_>) -> Result<Vec<
     }
 }
 
-// The text of the JSON AST. The graph is dropped before there is any of it.
-fn ast_text(alloc: Global, graph: Graph) -> Result<Vec<u8>, NoMemory>
+/// The text of a graph in the JSON AST, with a line feed. The graph is dropped before there is any of it.
+pub fn ast_text(alloc: Global, graph: Graph) -> Result<Vec<u8>, NoMemory>
     requires { IsJson (written_ast (maps_of graph)) }
     ensures { IfOk result (λ text. text.items ≡ converted as_ast (maps_of graph)) }
 {

@@ -2,13 +2,12 @@
 ghost use Rattle.std.specs.Prelude.{◌≡◌, ◌≤◌, List, ℕ, Contains, IfOk, Err};
 ghost use Rattle.sm_io.specs.Files.{LetsSame};
 ghost use Rattle.sm_io.specs.Seen.{files_seen};
-ghost use Rattle.sm_model.specs.Graphs.{GraphMaps};
 ghost use Rattle.sm_model.specs.GraphView.{maps_of};
 ghost use Rattle.sm_select.specs.Answers.{ParsesSelector, ArePicked};
 ghost use Rattle.sm_select.specs.Selectors.{steps_of};
 ghost use Rattle.sm_select.specs.View.{selector_view};
 ghost use Rattle.sm_model_commands.specs.SelectLines.{id_lines as the_id_lines};
-ghost use Rattle.sm_model_commands.specs.Select.{SelectorSays, Selects};
+ghost use Rattle.sm_model_commands.specs.Select.{NoSelectorSays, SelectorSays, Selects};
 ghost use Rattle.sm_asked.specs.Comes.{StepComesTo, StepStops};
 
 use crate::lines::{broken_selector_line, id_lines, other_selector_line};
@@ -20,9 +19,9 @@ use sm_select::{Selector, SelectorRefusal, parse_selector, select as picked};
 use sm_tree::NoMemory;
 use std::alloc::Global;
 
-// Why a text is no selector: its place.
-fn no_selector(alloc: Global, refusal: SelectorRefusal) -> CommandStop
-    ensures { (g : GraphMaps) (text : List ℕ) → ParsesSelector text (Err refusal) → StepStops (SelectorSays g text) ⊥ (Unit {0}) result }
+/// Why a text is no selector: its place.
+pub fn no_selector(alloc: Global, refusal: SelectorRefusal) -> CommandStop
+    ensures { (text : List ℕ) → ParsesSelector text (Err refusal) → StepStops (NoSelectorSays text) ⊥ (Unit {0}) result }
 {
     match refusal {
         SelectorRefusal::Syntax(at) => refused(broken_selector_line(alloc, at)),

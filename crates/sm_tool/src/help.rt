@@ -19,6 +19,8 @@ sm_tool select MODEL.. SELECTOR
     Prints the ids of the shapes and members that a selector picks in their graph.
 sm_tool serve MODEL.. SERVICE FRONT BACK HOST LISTEN CONNECT COUNT
     Serves a gateway between two protocols of a service over TCP: so many connections, one after the other.
+sm_tool transform MODEL.. VERB ARG
+    Prints the graph of model files after a change: a part of it, it without a part, or with another name of a namespace.
 sm_tool COMMAND --help
     Says more of a command, with an example and its statuses.
 sm_tool --help
@@ -167,6 +169,26 @@ status 0  all connections were served
        7  a limit on the models is passed
 ";
 
+const TRANSFORM: &str = "\
+sm_tool transform MODEL.. VERB ARG
+    Prints the graph of model files after a change, as a text of the JSON AST.
+
+MODEL     a model file: the JSON AST where its name ends in .json, else the IDL; 64 at most
+VERB ARG  include SELECTOR  keeps what the selector picks, with all that it needs
+          exclude SELECTOR  takes out what the selector picks, and all that can't be without it
+          rename A=B        gives the namespace A the name B
+SELECTOR  a selector (Smithy 2.0, \"Selectors\"), as one word of the command line
+
+    $ sm_tool transform shop.json exclude 'member[trait|required]'
+    {\"smithy\":\"2.0\",\"shapes\":{\"shop#Item\":{\"type\":\"structure\",\"members\":{\"total\":{\"target\":\"smithy.api#Long\"}}}}}
+
+status 0  the text is printed
+       1  a file is no model, the model is rejected, the text is no selector, A can't be renamed, or the result is rejected: a line says why
+       2  the words have no form            3  a file can't be read
+       4  the output can't be written       5  memory ran out
+       7  a limit is passed: 64 files, 4,194,304 bytes of a file, 33,554,432 of all, or one on the size of a model
+";
+
 /// What a command says of itself.
 pub fn help_of(command: &str) -> Option<&'static str> {
     match command {
@@ -177,6 +199,7 @@ pub fn help_of(command: &str) -> Option<&'static str> {
         "schema" => Some(SCHEMA),
         "select" => Some(SELECT),
         "serve" => Some(SERVE),
+        "transform" => Some(TRANSFORM),
         _ => None,
     }
 }
@@ -194,7 +217,9 @@ pub fn usage_of(command: &str) -> &'static str {
         "select" => "sm_tool select MODEL.. SELECTOR",
         "serve" =>
             "sm_tool serve MODEL.. SERVICE FRONT BACK HOST LISTEN CONNECT COUNT, where FRONT and BACK are protocols, as awsJson1_1",
+        "transform" =>
+            "sm_tool transform MODEL.. VERB ARG, where VERB is include, exclude or rename, and ARG a selector, or A=B",
         _ =>
-            "sm_tool body, check, convert, cross, schema, select or serve and its words; sm_tool --help lists them",
+            "sm_tool body, check, convert, cross, schema, select, serve or transform and its words; sm_tool --help lists them",
     }
 }

@@ -168,6 +168,12 @@ fn fault_said(kind: &str) -> Option<&'static str> {
 
 /// What any other line says: of the words, of a limit, or of an event.
 pub fn said_of_words(line: &str) -> Option<Said<'_>> {
+    if line == "Namespace" {
+        return Some(Said::plain(
+            "rename",
+            "the first namespace has no shapes or is smithy.api, or the model knows the second",
+        ));
+    }
     let (word, rest) = line.split_once(' ')?;
     match word {
         "NoShape" => Some(Said::plain(rest, "the model has no shape of this id that has values")),

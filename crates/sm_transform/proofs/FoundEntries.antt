@@ -1,6 +1,7 @@
 -- What is found among entries under a key, and that it stands there; maps of which the same is told are one.
-use Rattle.std.proofs.Common.{◌≡◌, inl, inr, ℕ, Bool, true, false, cond, List, [], ◌∷◌, Option, Some, None, refl, sym, subst, ◌∙◌}
+use Rattle.std.proofs.Common.{◌≡◌, inl, inr, ℕ, Bool, true, false, cond, List, [], ◌∷◌, Option, Some, None, refl, sym, ap, subst, ◌∙◌}
 use Rattle.std.specs.Prelude.{◌↔◌}
+use Rattle.std.specs.Cmp.{tied_itself as tied_order}
 use Rattle.std.specs.Cmp.Lexicographic.{nat_list_cmp_total}
 use Rattle.std.specs.FinMap as fin
 use Rattle.std.specs.FinMap.{get-entries, get-from_entries, same_map, slice_cmp-IsAntisymmetric, nat_cmp-IsAntisymmetric}
@@ -8,10 +9,11 @@ use Rattle.std.specs.FinMap.Entries.{find}
 use Rattle.std.specs.Ordering.{is_eq}
 use Rattle.std.specs.declared.cmp.Ordering.{Ordering}
 use Rattle.std.specs.declared.cmp.Ordering.TheVariants.{Less, Equal, Greater}
+use Rattle.std.proofs.lemmas.Bool.{cases_Bool}
 use Rattle.std.proofs.lemmas.Option.{none-some, same_Some}
-use Rattle.sm_model.specs.Formed.{StandsAmong}
+use Rattle.sm_model.specs.Formed.{DifferInNames, StandsAmong}
 use Rattle.sm_model.specs.Graphs.{text_cmp}
-use Rattle.sm_model.proofs.MapFacts.{Each, found_among, keys}
+use Rattle.sm_model.proofs.MapFacts.{Each, found_among, keys, keys_differ}
 use Rattle.sm_model.proofs.Worklist.{apart}
 
 -- keys that tie are one
@@ -50,7 +52,26 @@ module _ {X : Type 0} where
   each_all [] = tt
   each_all (e ∷ es) = (tt, each_all es)
 
+  -- what is found where keys differ holds of each
+  listed_found : (P : List ℕ → X → Type 0) (es : List (List ℕ × X)) → DifferInNames (keys es)
+      → ((k : List ℕ) (x : X) → find text_cmp k es ≡ Some x → P k x) → Each P es
+  listed_found P [] d h = tt
+  listed_found P (e ∷ es) d h = (h e.0 e.1 head, listed_found P es d.1 (λ k x found. h k x (tail k x found)))
+    where
+      head : find text_cmp e.0 (e ∷ es) ≡ Some e.1
+      head = ap (λ b. cond b (Some e.1) (find text_cmp e.0 es)) (ap is_eq (tied_order nat_list_cmp_total e.0))
+
+      tail : (k : List ℕ) (x : X) → find text_cmp k es ≡ Some x → find text_cmp k (e ∷ es) ≡ Some x
+      tail k x found = elim (cases_Bool (is_eq (text_cmp k e.0))) [
+        | inl same ↦ absurd (d.0 (subst (λ j. StandsAmong j (keys es)) (one_key k e.0 same) (found_stands k x es found)))
+        | inr other ↦ ap (λ b. cond b (Some e.1) (find text_cmp k es)) other ∙ found
+      ]
+
   -- of a map
+  pub each_there : (m : fin.FinMap text_cmp X) → Each (λ k x. fin.get m k ≡ Some x) (fin.entries m)
+  each_there m =
+      listed_found (λ k x. fin.get m k ≡ Some x) (fin.entries m) (keys_differ m) (λ k x found. get-entries m k ∙ found)
+
   pub key_found : (m : fin.FinMap text_cmp X) (q : List ℕ) → StandsAmong q (keys (fin.entries m)) → (x : X) × (fin.get m q ≡ Some x)
   key_found m q among =
       let r = found_among (λ k x. Unit {0}) q (fin.entries m) (each_all (fin.entries m)) among in

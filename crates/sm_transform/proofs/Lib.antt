@@ -19,3 +19,4 @@ mod ExcludedGraph
 mod RenamedIds
 mod KnownIds
 mod RenamedBack
+mod SomeChange

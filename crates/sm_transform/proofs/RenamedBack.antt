@@ -18,10 +18,10 @@ use Rattle.sm_ids.specs.IdText.{IsIdText}
 use Rattle.sm_ids.specs.TextParts.{absolute_id, local_part, namespace_part}
 use Rattle.sm_tree.specs.Node.{Node, Nodes, Members, text, list, object, no_nodes, node, no_members, member}
 use Rattle.sm_tree.specs.Same.{HasName, HasPair}
-use Rattle.sm_model.specs.Formed.{DifferInNames, StandsAmong}
+use Rattle.sm_model.specs.Formed.{StandsAmong}
 use Rattle.sm_model.specs.FormedGraph.{IsFormedGraph}
 use Rattle.sm_model.specs.Given.{AreIdNodes, AreNamedIds, AreNodeFields, AreRenamed, IsIdNode, NodeHasForm}
-use Rattle.sm_model.specs.Graphs.{Entry, GraphMaps, NodeMap, ShapeEntry, member_entry, shape_entry, text_cmp, traits_in}
+use Rattle.sm_model.specs.Graphs.{Entry, GraphMaps, NodeMap, ShapeEntry, member_entry, shape_entry, traits_in}
 use Rattle.sm_model.specs.Properties.{TypeFields, form_named, property_forms}
 use Rattle.sm_model.specs.Relations.{HasBodyPair, HasEntry, IsEntryText, IsInGraph, IsValueText, Refers, RelationFields}
 use Rattle.sm_model.specs.Relations.{field_relations, relation_under}
@@ -37,7 +37,7 @@ use Rattle.sm_model.specs.declared.relation.Relation.{Relation}
 use Rattle.sm_model.specs.declared.relation.Relation.TheVariants.{Error, Identifier, Input, Member, Output, Property, Target}
 use Rattle.sm_model.specs.declared.relation.Relation.TheVariants.{Operation as operation_of, Resource as resource_of}
 use Rattle.sm_model.proofs.LinkedEntries.{cons_here}
-use Rattle.sm_model.proofs.MapFacts.{Each, found_among, keys, keys_differ}
+use Rattle.sm_model.proofs.MapFacts.{Each, found_among, keys}
 use Rattle.sm_transform.specs.Changed.{Changed, rename}
 use Rattle.sm_transform.specs.IdChanges.{IdChange, body_after, entries_after, entry_after, field_after, fields_after, is_needed, keys_after}
 use Rattle.sm_transform.specs.IdChanges.{list_left, object_left}
@@ -49,25 +49,10 @@ use Rattle.sm_transform.specs.Namespaces.{is_of_namespace}
 use Rattle.sm_transform.specs.Renamed.{HasTraitIds, IsKnownIn, key_known, renamed_id}
 use Rattle.sm_transform.specs.Renamed.{renames, shape_known, trait_known}
 use Rattle.sm_transform.proofs.FormedHomes.{whole_at}
-use Rattle.sm_transform.proofs.FoundEntries.{found_stands, get_stands, made_each, one_key, same_told}
+use Rattle.sm_transform.proofs.FoundEntries.{each_there, get_stands, made_each, same_told}
 use Rattle.sm_transform.proofs.IdNamespaces.{id_parts, local_of, namespace_of}
 use Rattle.sm_transform.proofs.RenamedIds.{graph_id, moved_or_not, renamed_apart, renamed_else, renamed_here}
 use Rattle.sm_transform.proofs.StepsNeeded.{behind_head}
-
--- what is found among entries whose keys differ holds of each
-listed_found : (P : List ℕ → Node → Type 0) (es : List (List ℕ × Node)) → DifferInNames (keys es)
-    → ((k : List ℕ) (x : Node) → find text_cmp k es ≡ Some x → P k x) → Each P es
-listed_found P [] d h = tt
-listed_found P (e ∷ es) d h = (h e.0 e.1 head, listed_found P es d.1 (λ k x found. h k x (tail k x found)))
-  where
-    head : find text_cmp e.0 (e ∷ es) ≡ Some e.1
-    head = ap (λ b. cond b (Some e.1) (find text_cmp e.0 es)) (ap is_eq (tied_order nat_list_cmp_total e.0))
-
-    tail : (k : List ℕ) (x : Node) → find text_cmp k es ≡ Some x → find text_cmp k (e ∷ es) ≡ Some x
-    tail k x found = elim (cases_Bool (is_eq (text_cmp k e.0))) [
-      | inl same ↦ absurd (d.0 (subst (λ j. StandsAmong j (keys es)) (one_key k e.0 same) (found_stands k x es found)))
-      | inr other ↦ ap (λ b. cond b (Some e.1) (find text_cmp k es)) other ∙ found
-    ]
 
 -- traits whose ids are moved, and stay apart
 module _ (move : List ℕ → List ℕ) (m : NodeMap)
@@ -90,8 +75,7 @@ module _ (move : List ℕ → List ℕ) (m : NodeMap)
 
   all_come : Each Comes (filter_map (trait_after moves) (fin.entries m))
   all_come =
-      each_moved (fin.entries m)
-      (listed_found (λ k x. fin.get m k ≡ Some x) (fin.entries m) (keys_differ m) (λ k x found. get-entries m k ∙ found))
+      each_moved (fin.entries m) (each_there m)
 
   traits_told : (t : List ℕ) (v : Node) → (fin.get (traits_after moves m) t ≡ Some v) ↔ Comes t v
   traits_told t v = (

@@ -7,12 +7,16 @@ use Rattle.sm_model_commands.specs.asked.Outside.{Outside, inputs_seen}
 use Rattle.sm_cross_command.specs.asked_ends.AskedEnds.{AskedEnds}
 use Rattle.sm_cross_command.proofs.asked_ends.WholeEnds.{whole_ends}
 use Rattle.sm_cross_command.specs.CrossView.{cross_said}
-use Rattle.sm_commands.specs.Commands.{asked_of}
+use Rattle.sm_commands.specs.Commands.{IsCommandForm, asked_of}
 use Rattle.sm_commands.specs.steps.CarrySteps.{KeepsUnnamed}
 use Rattle.sm_commands.specs.steps.FormSteps.{command_of, whole_command}
 use Rattle.sm_commands.proofs.Commanded.{puts_whole}
 use Rattle.sm_commands.proofs.Runs.{files_kept, others_kept}
 use Rattle.sm_commands.proofs.command.carry_out.Goals as goal
+
+pub come_to-came-requires-clause-formed : goal.come_to-came-requires-clause-formed
+come_to-came-requires-clause-formed g c =
+    subst (λ f. (words : List (List ℕ)) × IsCommandForm words (command_of f)) c.in-Whole.is c.requires.formed
 
 pub returns-in-Whole-clause-ends : goal.returns-in-Whole-clause-ends
 returns-in-Whole-clause-ends g c =

@@ -1,4 +1,4 @@
-use Rattle.std.proofs.Common.{subst, sym}
+use Rattle.std.proofs.Common.{ℕ, List, subst, sym}
 use Rattle.sm_io.specs.Seen.{files_seen, stream}
 use Rattle.sm_compile.specs.Answers.{seen_store}
 use Rattle.sm_model_commands.specs.asked.Comes.{CommandComesTo}
@@ -8,7 +8,9 @@ use Rattle.sm_model_commands.specs.Check.{CheckSays}
 use Rattle.sm_model_commands.specs.Convert.{ConvertSays}
 use Rattle.sm_model_commands.specs.Select.{SelectSays}
 use Rattle.sm_model_commands.specs.Forms.{graph_form}
-use Rattle.sm_commands.specs.Commands.{asked_of}
+use Rattle.sm_transform_command.specs.Transform.{TransformSays}
+use Rattle.sm_transform_command.specs.TransformForm.{change_asked}
+use Rattle.sm_commands.specs.Commands.{IsCommandForm, asked_of}
 use Rattle.sm_commands.specs.steps.FormSteps.{whole_command}
 use Rattle.sm_commands.proofs.command.come_to.Goals as goal
 
@@ -76,3 +78,25 @@ returns-in-Schema-clause-comes g c =
     subst (λ f. CommandComesTo (inputs_seen files input g.P.Patterns.test store) (inputs_seen files1 input g.P.Patterns.test store1)
     (asked_of (whole_command f)) c.schema.result)
     (sym c.in-Schema.is) (c.schema.ensures.comes input)
+
+pub returns-in-Transform-clause-comes : goal.returns-in-Transform-clause-comes
+returns-in-Transform-clause-comes g c =
+    let files = files_seen (g.F.Files.held c.args.files.now) (g.F.Files.read_faults c.args.files.now)
+    (g.F.Files.write_faults c.args.files.now) in
+    let files1 = files_seen (g.F.Files.held c.transform.new.files) (g.F.Files.read_faults c.transform.new.files)
+    (g.F.Files.write_faults c.transform.new.files) in
+    let input = stream (g.S.Source.left c.args.input.now) (g.S.Source.faults c.args.input.now) in
+    let store = seen_store (g.P.Patterns.added c.args.patterns.now) (g.P.Patterns.refused c.args.patterns.now)
+    (g.P.Patterns.refusals c.args.patterns.now) in
+    let models = c.in-Transform.words.models.now in
+    subst (λ f. CommandComesTo (inputs_seen files input g.P.Patterns.test store) (inputs_seen files1 input g.P.Patterns.test store)
+    (asked_of (whole_command f)) c.transform.result)
+    (sym c.in-Transform.is)
+    (files_come models (λ held a. TransformSays held models (change_asked c.in-Transform.words.change) a) files files1
+    input g.P.Patterns.test store c.transform.result
+    c.transform.ensures.held c.transform.ensures.comes)
+
+pub transform-requires-clause-named : goal.transform-requires-clause-named
+transform-requires-clause-named g c =
+    let formed = subst (λ f. (words : List (List ℕ)) × IsCommandForm words (whole_command f)) c.in-Transform.is c.requires.formed in
+    formed.1.named

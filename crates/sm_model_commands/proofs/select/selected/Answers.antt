@@ -1,5 +1,5 @@
 use Rattle.sm_model.specs.GraphView.{maps_of}
-use Rattle.sm_model_commands.proofs.Selects.{picked_told}
+use Rattle.sm_model_commands.proofs.Selects.{none_told, picked_told}
 use Rattle.sm_model_commands.proofs.select.selected.Goals as goal
 
 pub returns-in-Ok-picked_lines : goal.returns-in-Ok-picked_lines
@@ -8,4 +8,5 @@ returns-in-Ok-picked_lines c =
     c.in-Ok-picked_lines.ensures
 
 pub returns : goal.returns
-returns c = c.no_selector.ensures (maps_of c.args.graph.now) c.args.text.now c.in-Err.ensures
+returns c =
+    none_told (maps_of c.args.graph.now) c.args.text.now c.no_selector.result (c.no_selector.ensures c.args.text.now c.in-Err.ensures)

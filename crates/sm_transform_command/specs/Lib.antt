@@ -1,0 +1,3 @@
+pub mod TransformForm
+pub mod Transform
+pub mod steps
