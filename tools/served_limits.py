@@ -162,7 +162,7 @@ def back_that_does_not_take_a_connection():
                 same(to_the_end(stream), NOT_FOUND, 'what needs no back is answered')
                 same(4 < time.monotonic() - begun < 10, True, 'after five seconds')
             time.sleep(0.2)
-            same(server.told, ['link 1: back connect: timed out', 'link 1: back write: not connected'], 'told')
+            same(server.told, ['link 1: back connect: timed out'], 'told')
 
 
 # ---- memory

@@ -120,8 +120,17 @@ impl<R: Net + Clock + Eprint + Drop> TcpDoors<R> {
     // Tells of a back that failed within a link.
     fn tell_lost(&self, what: &str, why: Option<ErrorKind>) {
         if let Some(kind) = why {
-            let _ = eprintln!(self.rt; "link {}: back {what}: {kind}", self.accepted);
+            let told = told_kind(kind);
+            let _ = eprintln!(self.rt; "link {}: back {what}: {told}", self.accepted);
         }
+    }
+}
+
+// What is told of a failure: where a socket has waited as long as it may, the system says that it would block.
+fn told_kind(kind: ErrorKind) -> ErrorKind {
+    match kind {
+        ErrorKind::WouldBlock => ErrorKind::TimedOut,
+        kind => kind,
     }
 }
 
@@ -223,8 +232,11 @@ impl<R: Net + Clock + Eprint + Drop> Doors for TcpDoors<R> {
             back_in,
             back_out,
         } = link;
-        self.tell_lost("read", back_in.why);
-        self.tell_lost("write", back_out.why);
+        // A back that wasn't reached was told of when the link came.
+        if back_in.stream.is_some() {
+            self.tell_lost("read", back_in.why);
+            self.tell_lost("write", back_out.why);
+        }
         linger(&self.rt, front_in);
     }
 }

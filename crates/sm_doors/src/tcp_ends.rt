@@ -16,7 +16,7 @@ const SIGNALS: u32 = 16;
 pub struct TcpSource<S> {
     pub(crate) stream: Option<S>,
     faults: u64,
-    // Why it failed first.
+    // Why it failed last.
     pub(crate) why: Option<ErrorKind>,
 }
 
