@@ -1,5 +1,5 @@
 -- A responder of rows, of which all is a function of what it reads: it answers with the body of a message, its own or the back's.
-use Rattle.std.specs.Prelude.{◌≡◌, ℕ, Bool, false, List, if◌then◌else◌, codes}
+use Rattle.std.specs.Prelude.{◌≡◌, ◌≤◌, ℕ, Bool, false, List, if◌then◌else◌, codes, length}
 use Rattle.std.specs.Str.{bytes_eq}
 use Rattle.sm_http.specs.declared.message.Head.{Head}
 use Rattle.sm_http.specs.declared.message.Message.{Message}
@@ -31,3 +31,7 @@ EchoReplies m said a = a ≡ echo said
 -- what was read of a message is kept
 abbrev pub EchoReads : EchoBody → Begun → List ℕ → Type 0
 EchoReads body begun bytes = (body.bytes.items ≡ bytes) × (body.here ≡ starts_here begun.head.start)
+
+-- and nothing beside
+abbrev pub EchoHolds : EchoBody → List ℕ → Type 0
+EchoHolds body bytes = length body.bytes.items ≤ length bytes

@@ -11,9 +11,11 @@ use std::alloc::Global;
 #[derive(Drop)]
 pub struct Echo;
 
-/// What its calls use: nothing.
+/// How much of bodies was handed to it.
 #[derive(Drop)]
-pub struct NoStore;
+pub struct Handed {
+    pub bytes: u64,
+}
 
 /// A request that the back was asked.
 #[derive(Drop)]
@@ -38,14 +40,14 @@ fn is_here(head: &Head) -> bool
 }
 
 impl Responder for Echo {
-    type Store = NoStore;
+    type Store = Handed;
 
     type Body = EchoBody;
 
     type Call = EchoCall;
 
     ghost use Rattle.std.proofs.Common.{refl, sym, ◌∙◌};
-    ghost use Rattle.session_rows.specs.Echoes.{EchoAsks, EchoReplies, EchoReads, echo_asked, echo};
+    ghost use Rattle.session_rows.specs.Echoes.{EchoAsks, EchoHolds, EchoReplies, EchoReads, echo_asked, echo};
 
     ghost asking = { λ r m a. EchoAsks m a };
 
@@ -57,12 +59,14 @@ impl Responder for Echo {
 
     ghost reads = { λ r body begun bytes. EchoReads body begun bytes };
 
+    ghost holds = { λ r body bytes. EchoHolds body bytes };
+
     ghost calls = { λ r call m. Unit {0} };
 
     fn begin_request(
         &self,
         alloc: Global,
-        _store: &mut NoStore,
+        _store: &mut Handed,
         head: &Head,
         _empty: bool,
     ) -> Result<EchoBody, NoMemory> {
@@ -75,7 +79,7 @@ impl Responder for Echo {
     fn begin_reply(
         &self,
         alloc: Global,
-        _store: &mut NoStore,
+        _store: &mut Handed,
         _call: EchoCall,
         head: &Head,
         _empty: bool,
@@ -89,10 +93,11 @@ impl Responder for Echo {
     fn piece(
         &self,
         _alloc: Global,
-        _store: &mut NoStore,
+        store: &mut Handed,
         body: &mut EchoBody,
         piece: &[u8],
     ) -> Result<(), NoMemory> {
+        store.bytes = store.bytes.saturating_add(piece.len() as u64);
         body.bytes.extend_from_slice(piece)?;
         Ok(())
     }
@@ -100,7 +105,7 @@ impl Responder for Echo {
     fn finish_request(
         &self,
         alloc: Global,
-        _store: &mut NoStore,
+        _store: &mut Handed,
         body: EchoBody,
         out: &mut Vec<u8>,
     ) -> Result<Turn<EchoCall>, NoMemory> {
@@ -116,7 +121,7 @@ impl Responder for Echo {
     fn finish_reply(
         &self,
         alloc: Global,
-        _store: &mut NoStore,
+        _store: &mut Handed,
         body: EchoBody,
     ) -> Result<Message, NoMemory> {
         line_answer(alloc, 200, body.bytes)

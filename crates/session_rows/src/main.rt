@@ -60,6 +60,19 @@ fn show_session(
     show_end(whole.end, out)
 }
 
+// Appends how many bytes of bodies were handed on where the front comes byte by byte, and its last byte can't be read, and the end.
+fn show_handed(alloc: Global, front: &[u8], out: &mut String) -> Result<(), NoMemory> {
+    let singles = single_bytes(alloc, front.len())?;
+    let fault = Failing {
+        front_in: front.len() as u64,
+        ..CALM
+    };
+    let said = play(alloc, front, &[], &singles, fault)?;
+    write!(out, "{}", said.handed)?;
+    out.push_str(" <> ")?;
+    show_end(said.end, out)
+}
+
 // The sessions of rows.
 #[derive(Drop)]
 struct Sessions;
@@ -67,6 +80,9 @@ struct Sessions;
 impl Player for Sessions {
     fn play(&mut self, alloc: Global, case: &str, out: &mut String) -> Result<(), NoMemory> {
         out.push_str(" => ")?;
+        if let Some(front) = case.strip_prefix("handed ") {
+            return show_handed(alloc, &given(alloc, front)?, out);
+        }
         let Some((front, back)) = case.split_once(" <> ") else {
             return Ok(out.push_str("no row")?);
         };

@@ -1,7 +1,7 @@
 // A session of a row, over objects in memory.
 ghost use Rattle.std.specs.Prelude.{◌<◌, All, IfOk};
 
-use crate::echo::{Echo, NoStore};
+use crate::echo::{Echo, Handed};
 use sm_io::{MemSink, MemSource};
 use sm_session::{SessionEnd, run_session};
 use sm_tree::NoMemory;
@@ -13,6 +13,8 @@ pub struct Played {
     pub answers: Vec<u8>,
     pub requests: Vec<u8>,
     pub end: SessionEnd,
+    /// How many bytes of bodies were handed on.
+    pub handed: u64,
 }
 
 /// Which call of an object fails, counted from 1; none where it is 0.
@@ -63,10 +65,11 @@ pub fn play(
     );
     let mut front_out = MemSink::new(alloc, vec![in alloc; failing.front_out]?);
     let mut back_out = MemSink::new(alloc, vec![in alloc; failing.back_out]?);
+    let mut handed = Handed { bytes: 0 };
     let end = run_session(
         alloc,
         &Echo,
-        &mut NoStore,
+        &mut handed,
         &mut front_in,
         &mut front_out,
         &mut back_in,
@@ -76,5 +79,6 @@ pub fn play(
         answers: front_out.bytes().to_vec(alloc)?,
         requests: back_out.bytes().to_vec(alloc)?,
         end,
+        handed: handed.bytes,
     })
 }

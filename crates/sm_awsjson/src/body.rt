@@ -18,6 +18,7 @@ ghost use Rattle.sm_messages.specs.Names.{told_by_body};
 ghost use Rattle.sm_messages.specs.Pieces.{HasAll, MayTake, OfAll, TakesPiece, frames_in, nodes_in, number_in};
 ghost use Rattle.sm_messages.specs.TreeAnswers.{TreeAnswers};
 ghost use Rattle.sm_messages.specs.TreeBodies.{tree_codec};
+ghost use Rattle.sm_bounds.specs.FewHeld.{HoldsFew};
 ghost use Rattle.sm_awsjson.specs.Begun.{AwsBegun, aws_state};
 ghost use Rattle.sm_awsjson.specs.Messages.{aws_convention, aws_form};
 ghost use Rattle.sm_awsjson.specs.declared.body.AwsBody.TheVariants.{Failed};
@@ -26,6 +27,7 @@ ghost use Rattle.sm_awsjson.specs.declared.version.AwsVersion.{AwsVersion};
 use crate::context::AwsJson;
 use crate::writing::LEAVES;
 use sm_bodies::{Body, BodyForm};
+use sm_bounds::laws::holds_few;
 use sm_codec::Decoder;
 use sm_http::Message;
 use sm_json::JsonReader;
@@ -135,7 +137,8 @@ fn held_reply<P: Patterns>(
 
 impl AwsBody {
     /// Takes the next piece, and decodes what the bytes so far complete. The store must have the patterns of the service's table, and isn't
-    /// changed. Only memory stops it: where the bytes are refused, the end tells that. A body that is out of memory stays so.
+    /// changed. Only memory stops it: where the bytes are refused, the end tells that. A body that is out of memory stays so. What it holds
+    /// is few, by the bytes that have come.
     ///
     /// # Errors
     ///
@@ -156,11 +159,16 @@ impl AwsBody {
         ensures begun { OnOk result ((asked : Asked) (head : Head) (empty : Bool) (come : List ℕ)
             → AwsBegun protocol.now.version (service_data service.now) P.test asked self.old head empty come
             → AwsBegun protocol.now.version (service_data service.now) P.test asked self.new head empty (come ++ bytes.now)) }
+        ensures few { OnOk result ((asked : Asked) (head : Head) (empty : Bool) (come : List ℕ)
+            → DefaultsPass (service_data service.now).table P.test
+            → AwsBegun protocol.now.version (service_data service.now) P.test asked self.old head empty come
+            → HoldsFew (service_data service.now).table (come ++ bytes.now) (aws_state self.new)) }
         ensures failed { OnErr result (self.new ≡ Failed) }
         ensures added { P.added patterns.new ≡ P.added patterns.old }
         ensures refused { P.refused patterns.new ≡ P.refused patterns.old }
         ensures refusals { P.refusals patterns.new ≡ P.refusals patterns.old }
     {
+        holds_few::<JsonReader>();
         let _protocol = protocol;
         let body = mem::replace(self, AwsBody::Failed);
         match taken(alloc, service, bytes, patterns, body) {

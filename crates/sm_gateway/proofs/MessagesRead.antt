@@ -4,18 +4,19 @@ use Rattle.std.specs.Prelude.{OnOk, Result}
 use Rattle.std.proofs.lemmas.Result.{on_ok_weaker}
 use Rattle.sm_bytes.specs.declared.no_memory.NoMemory.{NoMemory}
 use Rattle.sm_shapes.specs.Fitting.{Test}
+use Rattle.sm_shapes.specs.InOrder.{DefaultsPass}
 use Rattle.sm_http.specs.declared.message.Head.{Head}
 use Rattle.sm_protocols.specs.service.ServiceData.{ServiceData}
-use Rattle.sm_session.specs.Responding.{HasRead, ReadsOn}
+use Rattle.sm_session.specs.Responding.{HasRead, HoldsOn, ReadsOn}
 use Rattle.sm_protocols.specs.messages.Goals.{Asked, a_request, a_response}
 use Rattle.sm_protocols.specs.messages.declared.refusal.MessageRefusal.{MessageRefusal}
-use Rattle.sm_protocols.specs.ProtocolBodies.{ProtocolBegun, SomeBegun}
+use Rattle.sm_protocols.specs.ProtocolBodies.{HoldsFewOn, ProtocolBegun, SomeBegun}
 use Rattle.sm_protocols.specs.declared.body.ProtocolBody.{ProtocolBody}
 use Rattle.sm_protocols.specs.declared.spoken.Spoken.{Spoken}
 use Rattle.sm_gateway.specs.GatewayData.{GatewayData}
 use Rattle.sm_gateway.specs.declared.body.GatewayBody.{GatewayBody}
 use Rattle.sm_gateway.specs.declared.body.GatewayBody.TheVariants.{Refused, Reply, Request}
-use Rattle.sm_gateway.specs.steps.Reading.{BothSpoken, GatewayReads}
+use Rattle.sm_gateway.specs.steps.Reading.{BothSpoken, GatewayHolds, GatewayReads}
 
 -- one that is refused is read no more
 pub refused_on : (both : BothSpoken) (g : GatewayData) (test : Test) (old : GatewayBody) (refusal : MessageRefusal) (piece : List ℕ) → old
@@ -72,3 +73,37 @@ pub reply_on : (both : BothSpoken) (g : GatewayData) (test : Test) (old now : Ga
     → OnOk result (TakesOn both.back g.service test b c piece)
     → OnOk result (ReadsOn (GatewayReads both g test old) (GatewayReads both g test now) piece)
 reply_on both g test old now o b c piece result at is takes = on_ok_weaker result (reply_more both g test old now o b c piece at is) takes
+
+-- and what is held of it is few
+pub refused_holds : (both : BothSpoken) (g : GatewayData) (test : Test) (old : GatewayBody) (refusal : MessageRefusal) (piece : List ℕ)
+    → old ≡ Refused refusal → HoldsOn (GatewayReads both g test old) (GatewayHolds both g old) piece
+refused_holds both g test old refusal piece at =
+    λ begun bytes x. subst (λ k. GatewayHolds both g k (bytes ++ piece)) (sym at) tt
+
+request_few : (both : BothSpoken) (g : GatewayData) (test : Test) (old now : GatewayBody) (b c : ProtocolBody) (piece : List ℕ)
+    → DefaultsPass g.service.table test → old ≡ Request b → now ≡ Request c → HoldsFewOn both.front g.service test b c piece
+    → HoldsOn (GatewayReads both g test old) (GatewayHolds both g now) piece
+request_few both g test old now b c piece pass at is few = λ begun bytes x.
+    let (none, admits, come) = subst (λ k. GatewayReads both g test k begun bytes) at x in
+    subst (λ k. GatewayHolds both g k (bytes ++ piece)) (sym is) (few a_request begun.head begun.empty bytes pass come)
+
+pub request_holds : (both : BothSpoken) (g : GatewayData) (test : Test) (old now : GatewayBody) (b c : ProtocolBody) (piece : List ℕ)
+    (result : Result (Unit {0}) NoMemory) → DefaultsPass g.service.table test → old ≡ Request b → now ≡ Request c
+    → OnOk result (HoldsFewOn both.front g.service test b c piece)
+    → OnOk result (HoldsOn (GatewayReads both g test old) (GatewayHolds both g now) piece)
+request_holds both g test old now b c piece result pass at is few =
+    on_ok_weaker result (request_few both g test old now b c piece pass at is) few
+
+reply_few : (both : BothSpoken) (g : GatewayData) (test : Test) (old now : GatewayBody) (o : ℕ) (b c : ProtocolBody) (piece : List ℕ)
+    → DefaultsPass g.service.table test → old ≡ Reply o b → now ≡ Reply o c → HoldsFewOn both.back g.service test b c piece
+    → HoldsOn (GatewayReads both g test old) (GatewayHolds both g now) piece
+reply_few both g test old now o b c piece pass at is few = λ begun bytes x.
+    let (m, some, asked, come) = subst (λ k. GatewayReads both g test k begun bytes) at x in
+    subst (λ k. GatewayHolds both g k (bytes ++ piece)) (sym is) (few (a_response o) begun.head begun.empty bytes pass come)
+
+pub reply_holds : (both : BothSpoken) (g : GatewayData) (test : Test) (old now : GatewayBody) (o : ℕ) (b c : ProtocolBody) (piece : List ℕ)
+    (result : Result (Unit {0}) NoMemory) → DefaultsPass g.service.table test → old ≡ Reply o b → now ≡ Reply o c
+    → OnOk result (HoldsFewOn both.back g.service test b c piece)
+    → OnOk result (HoldsOn (GatewayReads both g test old) (GatewayHolds both g now) piece)
+reply_holds both g test old now o b c piece result pass at is few =
+    on_ok_weaker result (reply_few both g test old now o b c piece pass at is) few

@@ -1,11 +1,11 @@
 // Messages of a gateway, read: begun at their heads, and their values once all their bytes have come.
 ghost use Rattle.std.specs.Prelude.{◌≡◌, ◌<◌, [], IfOk, None, OnOk, Some, length};
 ghost use Rattle.sm_shapes.specs.Fitting.{Test};
-ghost use Rattle.sm_shapes.specs.InOrder.{AreStored};
+ghost use Rattle.sm_shapes.specs.InOrder.{AreStored, DefaultsPass};
 ghost use Rattle.sm_http.specs.declared.message.Message.{Message};
 ghost use Rattle.sm_protocols.specs.service.Servable.{Servable};
 ghost use Rattle.sm_protocols.specs.service.ServiceView.{service_data};
-ghost use Rattle.sm_session.specs.Responding.{HasRead, HasReadReply, HasReadRequest, ReadsOn, begun_for};
+ghost use Rattle.sm_session.specs.Responding.{HasRead, HasReadReply, HasReadRequest, HoldsOn, ReadsOn, begun_for};
 ghost use Rattle.sm_protocols.specs.messages.Answers.{AnswersRequest, AtHead, RefusedAs};
 ghost use Rattle.sm_protocols.specs.messages.Crossings.{or_by};
 ghost use Rattle.sm_protocols.specs.messages.Goals.{a_request};
@@ -15,8 +15,8 @@ ghost use Rattle.sm_protocols.specs.Forms.{form_of};
 ghost use Rattle.sm_protocols.specs.Kept.{protocol_of};
 ghost use Rattle.sm_gateway.specs.GatewayData.{ServesBoth};
 ghost use Rattle.sm_gateway.specs.GatewayView.{KeepsBoth, gateway_data};
-ghost use Rattle.sm_gateway.specs.steps.Reading.{AdmitsBody, AnsweredAs, AnswersReply, GatewayReads, IsMediaType, ReadsBoth, RefusesBody};
-ghost use Rattle.sm_gateway.specs.steps.Reading.{WasAsked, both_spoken, with_number};
+ghost use Rattle.sm_gateway.specs.steps.Reading.{AdmitsBody, AnsweredAs, AnswersReply, GatewayHolds, GatewayReads, IsMediaType, ReadsBoth};
+ghost use Rattle.sm_gateway.specs.steps.Reading.{RefusesBody, WasAsked, both_spoken, with_number};
 
 use crate::body::{GatewayBody, GatewayCall};
 use crate::gateway::Gateway;
@@ -174,7 +174,7 @@ pub(crate) fn begin_back(
     }
 }
 
-/// Reads a piece of a message. The store isn't changed.
+/// Reads a piece of a message, of which little is held. The store isn't changed.
 pub(crate) fn read_on<P: Patterns>(
     alloc: Global,
     gateway: &Gateway,
@@ -188,6 +188,9 @@ pub(crate) fn read_on<P: Patterns>(
     requires begun { HasRead (GatewayReads (both_spoken gateway.now) (gateway_data gateway.now) P.test body.old) }
     ensures reads { OnOk result (ReadsOn (GatewayReads (both_spoken gateway.now) (gateway_data gateway.now) P.test body.old)
         (GatewayReads (both_spoken gateway.now) (gateway_data gateway.now) P.test body.new) piece.now) }
+    ensures few { DefaultsPass (service_data gateway.now.service).table P.test
+        → OnOk result (HoldsOn (GatewayReads (both_spoken gateway.now) (gateway_data gateway.now) P.test body.old)
+        (GatewayHolds (both_spoken gateway.now) (gateway_data gateway.now) body.new) piece.now) }
     ensures added { P.added patterns.new ≡ P.added patterns.old }
     ensures refused { P.refused patterns.new ≡ P.refused patterns.old }
     ensures refusals { P.refusals patterns.new ≡ P.refusals patterns.old }

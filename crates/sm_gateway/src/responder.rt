@@ -35,7 +35,7 @@ impl<'a, P: Patterns> Responder for Crossings<'a, P> {
     ghost use Rattle.std.proofs.Common.{refl, sym, ap, ◌∙◌, subst};
     ghost use Rattle.sm_shapes.specs.InOrder.{AreStored};
     ghost use Rattle.sm_gateway.specs.GatewayView.{KeepsBoth};
-    ghost use Rattle.sm_gateway.specs.steps.Reading.{GatewayReads, Stands, WasAsked, both_spoken};
+    ghost use Rattle.sm_gateway.specs.steps.Reading.{GatewayHolds, GatewayReads, Stands, WasAsked, both_spoken};
 
     ghost asking = { λ r m a. AsksSo (gateway_data r.gateway.now) P.test m a };
 
@@ -48,6 +48,8 @@ impl<'a, P: Patterns> Responder for Crossings<'a, P> {
     ghost alike = { λ r s t. (P.added t ≡ P.added s) × (P.refused t ≡ P.refused s) × (P.refusals t ≡ P.refusals s) };
 
     ghost reads = { λ r body begun bytes. GatewayReads (both_spoken r.gateway.now) (gateway_data r.gateway.now) P.test body begun bytes };
+
+    ghost holds = { λ r body bytes. GatewayHolds (both_spoken r.gateway.now) (gateway_data r.gateway.now) body bytes };
 
     ghost calls = { λ r call m. WasAsked (gateway_data r.gateway.now) P.test call.operation m };
 

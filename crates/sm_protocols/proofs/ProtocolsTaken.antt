@@ -29,7 +29,7 @@ use Rattle.sm_rpc.specs.declared.body.RpcBody.{RpcBody}
 use Rattle.sm_rpc.proofs.RpcBodies.{rpc_takes}
 use Rattle.sm_protocols.specs.Forms.{form_of}
 use Rattle.sm_protocols.specs.Kept.{protocol_of}
-use Rattle.sm_protocols.specs.ProtocolBodies.{ProtocolBegun, SomeBegun}
+use Rattle.sm_protocols.specs.ProtocolBodies.{HoldsFewOn, ProtocolBegun, SomeBegun}
 use Rattle.sm_protocols.specs.declared.body.ProtocolBody.{ProtocolBody}
 use Rattle.sm_protocols.specs.declared.body.ProtocolBody.TheVariants.{Aws, Rpc, Rest as OfRest}
 use Rattle.sm_protocols.specs.declared.spoken.Spoken.{Spoken}
@@ -72,6 +72,13 @@ pub on_of : (p q : Spoken) (s : ServiceData) (test : Test) (old now a b : Protoc
 on_of p q s test old now a b bytes at is is1 x =
     subst (λ r. BegunOn r s test old now bytes) (sym at)
     (subst (λ k. BegunOn q s test k now bytes) (sym is) (subst (λ k. BegunOn q s test a k bytes) (sym is1) x))
+
+-- and what it holds then
+pub few_on_of : (p q : Spoken) (s : ServiceData) (test : Test) (old now a b : ProtocolBody) (bytes : List ℕ) → p ≡ q → old ≡ a → now ≡ b
+    → HoldsFewOn q s test a b bytes → HoldsFewOn p s test old now bytes
+few_on_of p q s test old now a b bytes at is is1 x =
+    subst (λ r. HoldsFewOn r s test old now bytes) (sym at)
+    (subst (λ k. HoldsFewOn q s test k now bytes) (sym is) (subst (λ k. HoldsFewOn q s test a k bytes) (sym is1) x))
 
 -- what a message comes to of which all bytes have come
 abbrev pub RequestOf : Spoken → ServiceData → Test → ProtocolBody → Result (ℕ × Value) MessageRefusal → Type 0

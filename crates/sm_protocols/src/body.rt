@@ -10,7 +10,7 @@ ghost use Rattle.sm_awsjson.specs.messages.MessageAnswers.{MessageAnswers};
 ghost use Rattle.sm_awsjson.specs.messages.Pieces.{HasAll, OfAll};
 ghost use Rattle.sm_protocols.specs.Forms.{form_of};
 ghost use Rattle.sm_protocols.specs.Kept.{IsKeptOf, protocol_of};
-ghost use Rattle.sm_protocols.specs.ProtocolBodies.{ProtocolBegun, SomeBegun};
+ghost use Rattle.sm_protocols.specs.ProtocolBodies.{HoldsFewOn, ProtocolBegun, SomeBegun};
 
 use crate::spoken::Spoken;
 use sm_awsjson::sm_messages::{MessageRefusal, Reply};
@@ -44,7 +44,7 @@ pub enum ProtocolBody {
 
 impl ProtocolBody {
     /// Takes the next piece of a body that was begun for the protocol. The store must have the patterns of the service's table, and isn't
-    /// changed.
+    /// changed. What the body holds is few, by the bytes that have come.
     ///
     /// # Errors
     ///
@@ -64,6 +64,7 @@ impl ProtocolBody {
         ensures begun { OnOk result ((asked : Asked) (head : Head) (empty : Bool) (come : List ℕ)
             → ProtocolBegun spoken.now (service_data service.now) P.test asked self.old head empty come
             → ProtocolBegun spoken.now (service_data service.now) P.test asked self.new head empty (come ++ bytes.now)) }
+        ensures few { OnOk result (HoldsFewOn spoken.now (service_data service.now) P.test self.old self.new bytes.now) }
         ensures added { P.added patterns.new ≡ P.added patterns.old }
         ensures refused { P.refused patterns.new ≡ P.refused patterns.old }
         ensures refusals { P.refusals patterns.new ≡ P.refusals patterns.old }

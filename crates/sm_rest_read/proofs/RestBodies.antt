@@ -16,6 +16,8 @@ use Rattle.sm_codec.specs.Bound.{KeptIsBounded}
 use Rattle.sm_codec.specs.DecodingView.{decoding_of}
 use Rattle.sm_codec.specs.declared.decoder.Decoder.{Decoder}
 use Rattle.sm_bodies.proofs.BodiesFed.{held_few, held_shallow}
+use Rattle.sm_bounds.specs.FewHeld.{HasReceived}
+use Rattle.sm_bounds.proofs.ReceivedFew.{as_long}
 use Rattle.sm_http.specs.declared.message.Head.{Head}
 use Rattle.sm_http.specs.declared.message.Message.{Message}
 use Rattle.sm_rest.specs.service.ServiceData.{ServiceData}
@@ -285,6 +287,18 @@ module _ (rest : Rest) (s : ServiceData) (test : Test) (p : ℕ) (head : Head) (
       (subst (λ x. JoinsAt (bound_at s g) test x bytes v) begun.parts joins)) in
       subst (λ k. AnswersGoal (MessageAnswers rest_form s test (a_response p) head bytes) (goal_of k the_output) v)
       (fed_operation o q j d begun) all
+
+-- what has come to a body was received by it: where bytes are dropped, none of them is kept
+received_bytes : (s : ServiceData) (there : Address) (dropped : Bool) (kept come : List ℕ) → KeepsBytes s there dropped kept come
+    → length kept ≤ length come
+received_bytes s there true kept come h = let lengths = ap length h.1 in omega (arith, lengths)
+received_bytes s there false kept come h = as_long kept come h
+
+pub rest_received : (rest : Rest) (s : ServiceData) (test : Test) (asked : Asked) (head : Head) (empty : Bool) (come : List ℕ) (b : RestBody)
+    → RestBegun rest s test asked b head empty come → HasReceived json_source (rest_codec rest test) come (rest_state b)
+rest_received rest s test asked head empty come Failed begun = tt
+rest_received rest s test asked head empty come (Held o m dropped) begun = received_bytes s begun.there dropped m.body come begun.body
+rest_received rest s test asked head empty come (Fed o p r d) begun = (begun.memory, begun.shape, begun.come)
 
 none_few : (n : ℕ) → 0 ≤ n
 none_few n = omega arith

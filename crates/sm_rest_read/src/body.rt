@@ -21,6 +21,7 @@ ghost use Rattle.sm_rest.specs.bind.BindingsView.{bindings_data};
 ghost use Rattle.sm_rest.specs.RestForm.{rest_form};
 ghost use Rattle.sm_rest.specs.RestOf.{IsRestOf};
 ghost use Rattle.sm_rest.specs.declared.context.Rest.{Rest};
+ghost use Rattle.sm_bounds.specs.FewHeld.{HoldsFew};
 ghost use Rattle.sm_rest_read.specs.Begun.{RestBegun, TakesRest, held_with, rest_codec, rest_state};
 ghost use Rattle.sm_rest_read.specs.declared.body.RestBody.TheVariants.{Failed};
 
@@ -29,6 +30,7 @@ use crate::places::{input_place, output_place};
 use crate::replies::{held_reply, held_request};
 use crate::values::fed_value;
 use sm_bodies::{Body, JsonBody};
+use sm_bounds::laws::holds_few;
 use sm_codec::Decoder;
 use sm_http::Message;
 use sm_json::JsonReader;
@@ -155,7 +157,7 @@ fn taken<P: Patterns>(
 impl RestBody {
     /// Takes the next piece, and decodes what the bytes so far complete. What is kept of the service must be that by which the body was
     /// begun. The store must have the patterns of the service's table, and isn't changed. Only memory stops it: where the bytes are refused,
-    /// the end tells that. A body that is out of memory stays so.
+    /// the end tells that. A body that is out of memory stays so. What it holds is few, by the bytes that have come.
     ///
     /// # Errors
     ///
@@ -175,11 +177,16 @@ impl RestBody {
         ensures begun { OnOk result ((asked : Asked) (head : Head) (empty : Bool) (come : List ℕ)
             → RestBegun rest.now (service_data service.now) P.test asked self.old head empty come
             → RestBegun rest.now (service_data service.now) P.test asked self.new head empty (come ++ bytes.now)) }
+        ensures few { OnOk result ((asked : Asked) (head : Head) (empty : Bool) (come : List ℕ)
+            → DefaultsPass (service_data service.now).table P.test
+            → RestBegun rest.now (service_data service.now) P.test asked self.old head empty come
+            → HoldsFew (bindings_data rest.now.bindings).documents (come ++ bytes.now) (rest_state self.new)) }
         ensures failed { OnErr result (self.new ≡ Failed) }
         ensures added { P.added patterns.new ≡ P.added patterns.old }
         ensures refused { P.refused patterns.new ≡ P.refused patterns.old }
         ensures refusals { P.refusals patterns.new ≡ P.refusals patterns.old }
     {
+        holds_few::<JsonReader>();
         let body = mem::replace(self, RestBody::Failed);
         match taken(alloc, rest, service, bytes, patterns, body) {
             Ok(body) => {

@@ -1,5 +1,5 @@
 -- The operation that a path tells, by what stands behind the name of its service.
-use Rattle.std.proofs.Common.{◌≡◌, ℕ, ◌<◌, List, ◌∷◌, ◌++◌, Option, None, Some, map, length, get_or, refl, sym, ap, ◌∙◌, subst}
+use Rattle.std.proofs.Common.{◌≡◌, ℕ, ◌<◌, List, ◌++◌, Option, None, Some, map, length, sym, ap, ◌∙◌, subst}
 use Rattle.std.specs.Prelude.{MatchOption, codes, slice_get}
 use Rattle.std.specs.List.{Contains}
 use Rattle.std.specs.Option.{option_map}

@@ -1,6 +1,6 @@
 -- The heads of Smithy RPC v2 CBOR (Smithy 2.0, "Smithy RPC v2 CBOR protocol"): each message has one field `smithy-protocol`. The name of an
 -- error stands in the body alone, under `__type`.
-use Rattle.std.specs.Prelude.{◌≡◌, ◌<◌, ℕ, Bool, false, List, ◌++◌, Option, None, Some, codes, length}
+use Rattle.std.specs.Prelude.{◌<◌, ℕ, Bool, false, List, ◌++◌, Option, None, Some, codes, length}
 use Rattle.std.specs.Str.{bytes_eq}
 use Rattle.sm_http.specs.FieldValues.{only_value, values_named}
 use Rattle.sm_http.specs.declared.message.Field.{Field}

@@ -18,6 +18,7 @@ ghost use Rattle.sm_messages.specs.MessageAnswers.{MessageAnswers};
 ghost use Rattle.sm_messages.specs.Pieces.{HasAll, MayTake, OfAll, TakesPiece, frames_in, nodes_in, number_in};
 ghost use Rattle.sm_messages.specs.TreeAnswers.{TreeAnswers, told_under};
 ghost use Rattle.sm_messages.specs.TreeBodies.{tree_codec};
+ghost use Rattle.sm_bounds.specs.FewHeld.{HoldsFew};
 ghost use Rattle.sm_rpc.specs.Begun.{RpcBegun, rpc_state};
 ghost use Rattle.sm_rpc.specs.Messages.{rpc_form};
 ghost use Rattle.sm_rpc.specs.declared.body.RpcBody.TheVariants.{Failed};
@@ -25,6 +26,7 @@ ghost use Rattle.sm_rpc.specs.declared.body.RpcBody.TheVariants.{Failed};
 use crate::context::Rpc;
 use crate::laws::reads_messages;
 use sm_bodies::{Body, BodyForm};
+use sm_bounds::laws::holds_few;
 use sm_cbor::CborReader;
 use sm_codec::{CborLeaves, Decoder};
 use sm_http::Message;
@@ -141,7 +143,8 @@ fn held_reply<P: Patterns>(
 
 impl RpcBody {
     /// Takes the next piece, and decodes what the bytes so far complete. The store must have the patterns of the service's table, and isn't
-    /// changed. Only memory stops it: where the bytes are refused, the end tells that. A body that is out of memory stays so.
+    /// changed. Only memory stops it: where the bytes are refused, the end tells that. A body that is out of memory stays so. What it holds
+    /// is few, by the bytes that have come.
     ///
     /// # Errors
     ///
@@ -162,11 +165,16 @@ impl RpcBody {
         ensures begun { OnOk result ((asked : Asked) (head : Head) (empty : Bool) (come : List ℕ)
             → RpcBegun (service_data service.now) P.test asked self.old head empty come
             → RpcBegun (service_data service.now) P.test asked self.new head empty (come ++ bytes.now)) }
+        ensures few { OnOk result ((asked : Asked) (head : Head) (empty : Bool) (come : List ℕ)
+            → DefaultsPass (service_data service.now).table P.test
+            → RpcBegun (service_data service.now) P.test asked self.old head empty come
+            → HoldsFew (service_data service.now).table (come ++ bytes.now) (rpc_state self.new)) }
         ensures failed { OnErr result (self.new ≡ Failed) }
         ensures added { P.added patterns.new ≡ P.added patterns.old }
         ensures refused { P.refused patterns.new ≡ P.refused patterns.old }
         ensures refusals { P.refusals patterns.new ≡ P.refusals patterns.old }
     {
+        holds_few::<CborReader>();
         let _protocol = protocol;
         let body = mem::replace(self, RpcBody::Failed);
         match taken(alloc, service, bytes, patterns, body) {

@@ -29,6 +29,10 @@ Reads = Begun → List ℕ → Type 0
 abbrev pub ReadsOn : Reads → Reads → List ℕ → Type 0
 ReadsOn before now piece = (begun : Begun) (bytes : List ℕ) → before begun bytes → now begun (bytes ++ piece)
 
+-- what is held behind a piece is within the bounds of the bytes that were read, whatever they were
+abbrev pub HoldsOn : Reads → (List ℕ → Type 0) → List ℕ → Type 0
+HoldsOn before holds piece = (begun : Begun) (bytes : List ℕ) → before begun bytes → holds (bytes ++ piece)
+
 -- some of a message was read
 abbrev pub HasRead : Reads → Type 0
 HasRead reads = (begun : Begun) × (bytes : List ℕ) × reads begun bytes

@@ -3,7 +3,7 @@ ghost use Rattle.std.specs.Prelude.{◌<◌, [], length, ℕ, List, IfOk, OnOk, 
 ghost use Rattle.sm_http.specs.declared.message.Head.{Head};
 ghost use Rattle.sm_http.specs.declared.message.Message.{Message};
 ghost use Rattle.sm_session.specs.Turns.{Asked};
-ghost use Rattle.sm_session.specs.Responding.{Begun, ReadsOn, FinishesRequest, FinishesReply};
+ghost use Rattle.sm_session.specs.Responding.{Begun, HoldsOn, ReadsOn, FinishesRequest, FinishesReply};
 ghost use Rattle.sm_session.specs.Responding.{HasAsked, HasRead, HasReadReply, HasReadRequest};
 ghost use Rattle.sm_session.specs.Laws.{HasOneAsked, HasSomeAsked, HasOneReply, HasSomeReply};
 
@@ -47,6 +47,9 @@ pub trait Responder {
     /// The body is of a message that was begun so, and these bytes of it were read.
     ghost reads: { Self → Self.Body → Begun → List ℕ → Type 0 };
 
+    /// What the body holds is within the bounds that it has where these bytes were read.
+    ghost holds: { Self → Self.Body → List ℕ → Type 0 };
+
     /// This request was asked.
     ghost calls: { Self → Self.Call → Message → Type 0 };
 
@@ -85,7 +88,7 @@ pub trait Responder {
             → reads self.now body (record { request = Some m; head = head.now; empty = empty }) []) }
         ensures alike { alike self.now store.old store.new };
 
-    /// Reads a piece of a body.
+    /// Reads a piece of a body, which holds no more behind it than what the bytes so far allow.
     ///
     /// # Errors
     ///
@@ -101,6 +104,7 @@ pub trait Responder {
         requires begun { HasRead (reads self.now body.old) }
         requires some { 0 < length piece.now }
         ensures reads { OnOk result (ReadsOn (reads self.now body.old) (reads self.now body.new) piece.now) }
+        ensures few { OnOk result (HoldsOn (reads self.now body.old) (holds self.now body.new) piece.now) }
         ensures alike { alike self.now store.old store.new };
 
     /// Ends to read a request: its answer, or what the back is asked for, whose text is appended to `out`.

@@ -27,7 +27,7 @@ use Rattle.sm_protocols.specs.messages.declared.refusal.MessageRefusal.TheVarian
 use Rattle.sm_protocols.specs.messages.declared.refusal.MessageRefusal.TheVariants.{UnknownOperation, Unserved}
 use Rattle.sm_protocols.specs.messages.declared.refusal.MessageRefusal.TheVariants.{NoMemory as OutOfMemory}
 use Rattle.sm_protocols.specs.messages.declared.reply.Reply.{Reply as MessageReply}
-use Rattle.sm_protocols.specs.ProtocolBodies.{ProtocolBegun}
+use Rattle.sm_protocols.specs.ProtocolBodies.{BodyHoldsFew, ProtocolBegun, body_table}
 use Rattle.sm_protocols.specs.declared.spoken.Spoken.{Spoken}
 use Rattle.sm_gateway.specs.Answers.{IsSaid}
 use Rattle.sm_gateway.specs.GatewayData.{GatewayData, ServesBoth, back_form, front_form}
@@ -102,6 +102,12 @@ GatewayReads both g test (Request body) begun bytes =
 GatewayReads both g test (Reply o body) begun bytes =
     (m : Message) × (begun.request ≡ Some m) × WasAsked g test o m
     × ProtocolBegun both.back g.service test (a_response o) body begun.head begun.empty bytes
+
+-- and what is held of it: nothing where it is refused, and else few, by the bytes that have come
+abbrev pub GatewayHolds : BothSpoken → GatewayData → GatewayBody → List ℕ → Type 0
+GatewayHolds both g (Refused refusal) bytes = Unit {0}
+GatewayHolds both g (Request body) bytes = BodyHoldsFew (body_table both.front g.service) bytes body
+GatewayHolds both g (Reply o body) bytes = BodyHoldsFew (body_table both.back g.service) bytes body
 
 -- a value of a goal is put to a far end, or isn't carried there, and that is answered
 abbrev pub AsksFor : MessageForm → ServiceData → List ℕ → Goal → Val → List ℕ → List ℕ → Result (Turn GatewayCall) NoMemory → Type 0
