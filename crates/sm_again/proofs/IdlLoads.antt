@@ -1,6 +1,5 @@
 -- The texts of all namespaces of a model in the IDL load to the model.
 use Rattle.std.proofs.Common.{inl, inr, ℕ, List, [], ◌∷◌, Ok, refl, sym, subst, IsUtf8}
-use Rattle.std.specs.FinMap as fin
 use Rattle.sm_ids.specs.Identifier.{IsNamespace}
 use Rattle.sm_ids.specs.TextParts.{local_part}
 use Rattle.sm_ids.proofs.TextCuts.{id_cut}

@@ -5,7 +5,7 @@ mod NamespaceStates
 mod NamespaceOnce
 mod WrittenMerges
 mod NamesFormed
-mod MergedShapes
+pub mod MergedShapes
 mod WrittenTexts
 pub mod JsonGraphs
 mod GraphNamed

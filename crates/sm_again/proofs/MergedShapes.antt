@@ -1,6 +1,6 @@
 -- The shapes of a merged graph, those of the prelude among them, are shapes that a graph may be made from; and the graph is that of
 -- these shapes.
-use Rattle.std.proofs.Common.{◌≡◌, ◌+◌, inl, inr, ℕ, Bool, true, false, cond, List, [], ◌∷◌, map, length, Option, Some, None}
+use Rattle.std.proofs.Common.{◌≡◌, ◌<◌, ◌+◌, ◌^◌, inl, inr, ℕ, Bool, true, false, cond, List, [], ◌∷◌, map, length, Option, Some, None}
 use Rattle.std.proofs.Common.{refl, sym, ap, subst, ◌∙◌, arith}
 use Rattle.std.specs.List.{list_all}
 use Rattle.std.specs.Cmp.Lexicographic.{nat_list_cmp_total}
@@ -8,6 +8,7 @@ use Rattle.std.specs.FinMap as fin
 use Rattle.std.specs.FinMap.{len-empty, len-entries, len-insert, nat_cmp-IsAntisymmetric, same_map, slice_cmp-IsAntisymmetric}
 use Rattle.std.specs.Option.{is_some}
 use Rattle.std.proofs.lemmas.Bool.{and_parts}
+use Rattle.std.proofs.lemmas.List.{length-map}
 use Rattle.std.proofs.lemmas.Option.{none-some, same_Some}
 use Rattle.sm_ids.specs.Identifier.{IsIdentifier}
 use Rattle.sm_ids.specs.IdText.{IsIdText}
@@ -16,12 +17,15 @@ use Rattle.sm_model.specs.Formed.{DifferInNames, HaveForm, StandsAmong}
 use Rattle.sm_model.specs.Given.{AreGivenMembers, AreGivenShapes, AreNodes, HasShapeBody, IsGivenShape, IsNodeMap, given_ids, given_names}
 use Rattle.sm_model.specs.Graphs.{Entry, GraphMaps, MemberEntry, MemberGiven, NodeMap, ShapeEntry, ShapeGiven, ShapeMap, given_entries}
 use Rattle.sm_model.specs.Graphs.{given_members, given_shape, member_entry, member_id, shape_entry, text_cmp}
-use Rattle.sm_model.specs.GraphView.{HasKind, HasMembers, IsShapeEntry}
+use Rattle.sm_model.specs.GraphView.{HasKind, HasMembers, IsShapeEntry, maps_of}
+use Rattle.sm_model.specs.GraphRows.{ids_of, row_entry}
 use Rattle.sm_model.specs.Kinds.{member_form}
 use Rattle.sm_model.specs.PreludeShapes.{is_prelude_id, prelude_shapes}
 use Rattle.sm_model.specs.References.{IsShapeId}
 use Rattle.sm_model.specs.Said.{Said}
 use Rattle.sm_model.specs.Used.{shape_part}
+use Rattle.sm_model.specs.declared.graph.Graph.{Graph}
+use Rattle.sm_model.proofs.GraphFacts.{entries_are}
 use Rattle.sm_model.proofs.MapFacts.{Each, each_joined, keys, keys_differ}
 use Rattle.sm_merge.specs.Merged.{IsGraphOf, IsOfPrelude, StandsUnder}
 use Rattle.sm_merge.specs.Mixins.{names_of}
@@ -406,3 +410,9 @@ module _ (g : GraphMaps) (whole : (id : List ℕ) (s : ShapeEntry) → fin.get g
 
     pub as_many : length (given_entries shapes_given) ≡ length (fin.entries g.shapes)
     as_many = counted (given_entries shapes_given) keys_are ∙ sym (ap (λ m. length (fin.entries m)) shapes_again)
+
+-- a graph of the code has few entries
+pub few_entries : (graph : Graph) → length (fin.entries (maps_of graph).shapes) < 2 ^ 32
+few_entries graph =
+    let kept = length-map graph.rows.items (row_entry (ids_of graph.rows.items)) in
+    subst (λ es. length es < 2 ^ 32) (sym (entries_are graph)) (omega (arith, kept, graph.few))

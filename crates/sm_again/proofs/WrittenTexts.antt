@@ -1,20 +1,16 @@
 -- What is written for a merged graph is the text of files: the graph is that of its shapes, whose names and values are as they are
 -- written. What these texts say merges to the graph.
-use Rattle.std.proofs.Common.{◌≡◌, ◌<◌, ◌≤◌, ◌^◌, inl, inr, ℕ, List, [], ◌∷◌, length, Some, Ok, refl, sym, ap, subst, ◌∙◌, arith, IsUtf8}
+use Rattle.std.proofs.Common.{◌≡◌, ◌<◌, ◌≤◌, ◌^◌, inl, inr, ℕ, List, [], ◌∷◌, Some, Ok, refl, sym, ap, subst, ◌∙◌, IsUtf8}
 use Rattle.std.specs.FinMap as fin
-use Rattle.std.proofs.lemmas.List.{length-map}
 use Rattle.sm_ids.specs.IdText.{IsIdText}
 use Rattle.sm_tree.specs.Levels.{levels}
 use Rattle.sm_tree.specs.Limits.{most_levels}
 use Rattle.sm_tree.specs.Node.{Node}
 use Rattle.sm_model.specs.Formed.{StandsAmong}
 use Rattle.sm_model.specs.Given.{AreGiven}
-use Rattle.sm_model.specs.GraphRows.{ids_of, row_entry}
 use Rattle.sm_model.specs.Graphs.{Entry, GraphMaps, NodeMap, ShapeEntry, graph_of, member_entry, member_id, shape_entry}
 use Rattle.sm_model.specs.GraphView.{maps_of}
 use Rattle.sm_model.specs.Said.{Said}
-use Rattle.sm_model.specs.declared.graph.Graph.{Graph}
-use Rattle.sm_model.proofs.GraphFacts.{entries_are}
 use Rattle.sm_model.proofs.MapFacts.{Each, keys_differ}
 use Rattle.sm_merge.specs.Answers.{MergesTo}
 use Rattle.sm_merge.specs.Merged.{IsGraphOf}
@@ -31,7 +27,7 @@ use Rattle.sm_idl.proofs.FileWritten.{written_is_file}
 use Rattle.sm_idl.proofs.OneFile.{one_reading}
 use Rattle.sm_again.specs.WrittenMerges.{written_files}
 use Rattle.sm_again.specs.WrittenTexts.{AllSayIdl, AreShallow, IsShallow, ReadMerges, WrittenTexts, written_texts}
-use Rattle.sm_again.proofs.MergedShapes.{IsWholeShape, LooksUp, all_differ, all_given, are_given, as_many, each_there, members_of}
+use Rattle.sm_again.proofs.MergedShapes.{IsWholeShape, LooksUp, all_differ, all_given, are_given, as_many, each_there, few_entries, members_of}
 use Rattle.sm_again.proofs.MergedShapes.{named_each, nodes_of, shapes_again, shapes_given, whole_shape}
 use Rattle.sm_again.proofs.WrittenMerges.{written_merges}
 
@@ -88,11 +84,6 @@ module _ (g : GraphMaps) (sound : (k : List ℕ) (e : Entry) → fin.get g.shape
           members_few id w.names w.each,
           hs,
         )) (fin.entries g.shapes) (each_there g whole)
-
-few_entries : (graph : Graph) → length (fin.entries (maps_of graph).shapes) < 2 ^ 32
-few_entries graph =
-    let kept = length-map graph.rows.items (row_entry (ids_of graph.rows.items)) in
-    subst (λ es. length es < 2 ^ 32) (sym (entries_are graph)) (omega (arith, kept, graph.few))
 
 pub written_texts_law : WrittenTexts
 written_texts_law files graph namespace formed merged shallow is =

@@ -8,6 +8,8 @@ ghost use Rattle.sm_again.specs.AstMerges.{AstMerges};
 ghost use Rattle.sm_again.specs.WrittenMerges.{WrittenAgain, WrittenMerges};
 ghost use Rattle.sm_again.specs.WrittenTexts.{ReadMerges, WrittenTexts};
 
+pub use sm_load;
+
 /// The statements that the tree of a graph says merge to the graph, where files merge to it.
 pub fn ast_merges()
     ensures { AstMerges }

@@ -1,0 +1,15 @@
+mod FewerSums
+mod Faithful
+mod KeptGraphs
+mod SmallerGraphs
+mod IdParts
+mod IncludedWhole
+mod PreludeAgain
+mod LeftValues
+mod BodyRows
+mod ChangedWhole
+mod LeftEntries
+mod LeftShapes
+mod ExcludedWhole
+mod RenamedWhole
+mod WrittenChanges
