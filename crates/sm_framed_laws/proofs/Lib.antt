@@ -1,0 +1,10 @@
+pub mod PlainTexts
+pub mod WrittenHeads
+pub mod TargetsVisible
+pub mod AwsFramed
+pub mod RpcFramed
+pub mod HeadersWritable
+pub mod RestBodies
+pub mod RestFramed
+pub mod CrossedFramed
+pub mod AnswersFramed

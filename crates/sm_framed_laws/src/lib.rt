@@ -1,0 +1,33 @@
+// That what a gateway writes is framed again as itself (RFC 9112): what crosses is one message to whoever reads it, whatever values it
+// spells and whatever follows it, and so is each answer to what is refused. These calls do nothing: their contracts are the laws.
+#![tactic(auto)]
+
+ghost use Rattle.sm_gateway.specs.GatewayData.{GatewayData, back_form, front_form};
+ghost use Rattle.sm_framed_laws.specs.Framing.{AnswersAreFramed, CrossedIsFramed, WrittenIsFramed};
+
+/// What a protocol writes for a value that it carries is framed as itself, within the limits of what is read: 16,384 bytes of a head, 64
+/// fields, and 8 MiB of a body.
+pub fn written_is_framed()
+    ensures front { (g : GatewayData) → WrittenIsFramed (front_form g) }
+    ensures back { (g : GatewayData) → WrittenIsFramed (back_form g) }
+{
+    sm_http::laws::written_is_read();
+    sm_part_texts::laws::carried_texts_pass();
+}
+
+/// So is each message that crosses a gateway.
+pub fn crossed_is_framed()
+    ensures requests { (g : GatewayData) → CrossedIsFramed (front_form g) (back_form g) }
+    ensures responses { (g : GatewayData) → CrossedIsFramed (back_form g) (front_form g) }
+{
+    sm_gateway::laws::each_is_form();
+    written_is_framed();
+}
+
+/// And the answers to requests and responses that are refused, also where they say that the connection ends.
+pub fn answers_are_framed()
+    ensures { AnswersAreFramed }
+{
+    sm_http::laws::written_is_read();
+    sm_http::laws::says_it_closes();
+}
