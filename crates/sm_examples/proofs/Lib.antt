@@ -1,0 +1,5 @@
+mod ErrorsById
+mod InputOrders
+mod ExamplesAt
+pub mod EntriesRead
+pub mod FirstOnce
