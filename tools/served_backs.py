@@ -1,7 +1,9 @@
 """Backs by hand for `served`: a small service over sockets, in each protocol that the program speaks, which also misbehaves as it is asked."""
 import json
 import socket
+import struct
 import threading
+import time
 
 TYPES = {'awsJson1_0': 'application/x-amz-json-1.0', 'awsJson1_1': 'application/x-amz-json-1.1', 'restJson1': 'application/json',
          'rpcv2Cbor': 'application/cbor'}
@@ -127,6 +129,12 @@ def value_of(protocol, body):
     return of_cbor(body)[0] if protocol == 'rpcv2Cbor' else json.loads(body)
 
 
+def reset(stream):
+    """Ends a connection by a reset."""
+    stream.setsockopt(socket.SOL_SOCKET, socket.SO_LINGER, struct.pack('ii', 1, 0))
+    stream.close()
+
+
 class Back:
     """A service behind a port of its own. `way` says how each connection is treated:
 
@@ -135,6 +143,8 @@ class Back:
     idle     the connection is closed behind the first answer, which doesn't say so
     early    answers stand there before the request's body is read
     closes   each answer says `connection: close`, and is the last
+    cuts     the connection is closed inside the first answer
+    resets   the connection is reset inside the first answer
     fails    each request is answered with the error `Full`
     strays   each answer has a count that is no number
     twice    each answer is sent twice
@@ -180,6 +190,12 @@ class Back:
             self.requests += 1
             if self.way == 'hangs':
                 continue
+            if self.way in ('cuts', 'resets'):
+                stream.sendall(self.answer(body)[:-1])
+                if self.way == 'resets':
+                    time.sleep(0.2)
+                    reset(stream)
+                return
             stream.sendall(self.answer(body) * (2 if self.way == 'twice' else 1))
             if self.way in ('idle', 'closes'):
                 return

@@ -36,6 +36,15 @@ def curl_sends_chunks():
 
 
 @check
+def curl_puts_in_rest():
+    with served('restJson1', 'rpcv2Cbor') as (server, back):
+        out = curl('-X', 'PUT', '-H', 'content-type: application/json', '-d', '{"note":"ab"}', '-w', ' %{http_code} %{num_connects}\n',
+                   server.url + 'items/a%20b', server.url + 'items/c', server.url + 'items')
+        same(out, '{"count":2} 200 1\n{"count":2} 200 0\nUnknownOperation\n 404 0\n')
+        same((back.links, back.requests), (1, 2), 'connections and requests to the back')
+
+
+@check
 def curl_asks_for_a_head():
     with served() as (server, back):
         out = curl('-I', server.url)
@@ -60,20 +69,22 @@ def curl_is_refused_and_goes_on():
 
 @check
 def python_keeps_a_connection():
-    for front, back in (('awsJson1_0', 'awsJson1_1'), ('awsJson1_1', 'rpcv2Cbor'), ('rpcv2Cbor', 'awsJson1_0')):
+    for front, back in (('awsJson1_0', 'awsJson1_1'), ('awsJson1_1', 'rpcv2Cbor'), ('rpcv2Cbor', 'restJson1'), ('restJson1', 'awsJson1_0')):
         with served(front, back) as (server, behind):
             client = http.client.HTTPConnection(server.host, server.port, timeout=20)
             for length in (0, 1, 70_000):
                 value = {'id': 'a', 'note': 'n' * length}
                 fields = {'content-type': TYPES[front]}
-                path = '/'
+                method, path = 'POST', '/'
                 if front == 'rpcv2Cbor':
                     path = '/service/Shop/operation/PutItem'
                     fields['smithy-protocol'] = 'rpc-v2-cbor'
+                elif front == 'restJson1':
+                    method, path = 'PUT', '/items/' + value.pop('id')
                 else:
                     fields['x-amz-target'] = 'Shop.PutItem'
                 body = cbor(value) if front == 'rpcv2Cbor' else json.dumps(value).encode()
-                client.request('POST', path, body, fields)
+                client.request(method, path, body, fields)
                 response = client.getresponse()
                 text = response.read()
                 same(response.status, 200, 'status')

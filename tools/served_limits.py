@@ -175,6 +175,22 @@ def limit_memory(server, more):
 
 
 @check
+def bodies_are_read_as_they_come():
+    """Of one of megabytes, nearly all of which is passed over, no more is held before its end than of a small one."""
+    for front in ('awsJson1_1', 'restJson1', 'rpcv2Cbor'):
+        with served(front) as (server, _), server.connect() as stream:
+            reader = Reader(stream)
+            ask(stream, reader, front)
+            before, whole = server.memory(), request(front, {'id': 'a', 'extra': ['abcde'] * 850_000, 'note': 'abc'})
+            stream.sendall(whole[:-1])
+            time.sleep(0.5)
+            held = server.memory() - before
+            stream.sendall(whole[-1:])
+            same(reader.message()[0], 'HTTP/1.1 200 OK', 'start line')
+            same(held < 1024, True, f'{held} KiB more are held of a body of {len(whole) // 1024} in {front}')
+
+
+@check
 def memory_that_runs_out_costs_a_link():
     """The others are served, and the status says it behind the last."""
     with served(count=3) as (server, _):

@@ -4,7 +4,6 @@ import json
 import re
 import signal
 import socket
-import struct
 import subprocess
 import threading
 
@@ -114,11 +113,12 @@ def served(front='awsJson1_1', back='awsJson1_0', way='serves', **named):
 
 def request(protocol='awsJson1_1', value=None, closes=False):
     value = {'id': 'a', 'note': 'abc'} if value is None else value
-    body = cbor(value) if protocol == 'rpcv2Cbor' else json.dumps(value).encode()
+    lines, said = ['POST / HTTP/1.1', 'x-amz-target: Shop.PutItem'], value
     if protocol == 'rpcv2Cbor':
         lines = ['POST /service/Shop/operation/PutItem HTTP/1.1', 'smithy-protocol: rpc-v2-cbor', 'accept: application/cbor']
-    else:
-        lines = ['POST / HTTP/1.1', 'x-amz-target: Shop.PutItem']
+    elif protocol == 'restJson1':
+        lines, said = [f'PUT /items/{value["id"]} HTTP/1.1'], {name: value[name] for name in value if name != 'id'}
+    body = cbor(said) if protocol == 'rpcv2Cbor' else json.dumps(said).encode()
     lines += ['host: shop.example', f'content-type: {TYPES[protocol]}']
     if closes:
         lines.append('connection: close')
@@ -147,9 +147,3 @@ def to_the_end(stream):
         if not piece:
             return seen
         seen += piece
-
-
-def reset(stream):
-    """Ends a connection by a reset."""
-    stream.setsockopt(socket.SOL_SOCKET, socket.SO_LINGER, struct.pack('ii', 1, 0))
-    stream.close()
