@@ -48,15 +48,15 @@ module _ (version : AwsVersion) (s : ServiceData) (servable : Servable s) (host 
       request_writable (codes "POST") (codes "/") host (json_type version) (target_field s o ∷ []) (body_of version s (goal_of o the_input) v)
       post_token (omega arith) (visible_uris (codes "/") refl) (ascii_utf8 (codes "/") refl) shown (type_writable version)
       (All-cons IsWritableField (target_field s o) [] (visible_field target_name (target_of s o) target_token (target_visible o within))
-      (All-nil IsWritableField)) (record { coding = refl; length = refl }) short
+      (All-nil IsWritableField)) (record { coding = refl; length = refl; connection = refl }) short
   goal_writable o the_output v within short =
       response_writable 200 (json_type version) [] (body_of version s (goal_of o the_output) v) (record { low = omega arith; high = omega arith })
-      refl refl (type_writable version) (All-nil IsWritableField) (record { coding = refl; length = refl }) short
+      refl refl (type_writable version) (All-nil IsWritableField) (record { coding = refl; length = refl; connection = refl }) short
   goal_writable o (the_error e) v within short =
       let client = (error_of s (goal_of o (the_error e))).client in
       let status = fault_final client in
       response_writable (fault_status client) (json_type version) [] (body_of version s (goal_of o (the_error e)) v) status.0 status.1 status.2
-      (type_writable version) (All-nil IsWritableField) (record { coding = refl; length = refl }) short
+      (type_writable version) (All-nil IsWritableField) (record { coding = refl; length = refl; connection = refl }) short
 
 pub aws_framed : WrittenIsRead of_requests → WrittenIsRead of_responses → (version : AwsVersion) → WrittenIsFramed (aws_form version)
 aws_framed asked answered version s test g host v serves served fits carried is short = λ rest.

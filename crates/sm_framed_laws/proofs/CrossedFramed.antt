@@ -19,10 +19,10 @@ use Rattle.sm_bind_laws.proofs.messages.CrossedMessages.{found, near_serves}
 use Rattle.sm_bind_laws.proofs.messages.OneReplies.{goal_of_head}
 use Rattle.sm_framed_laws.specs.Framing.{CrossedIsFramed, IsFramed, IsWithinLimits, WrittenIsFramed, side_of}
 
-crosses_or_stays : (g : Goal) (n : Message) (r : Refusal) → crosses g n ≡ stays r → ⊥
+pub crosses_or_stays : (g : Goal) (n : Message) (r : Refusal) → crosses g n ≡ stays r → ⊥
 crosses_or_stays g n r e = cc
 
-same_crossed : (g h : Goal) (m n : Message) → crosses g m ≡ crosses h n → (g ≡ h) × (m ≡ n)
+pub same_crossed : (g h : Goal) (m n : Message) → crosses g m ≡ crosses h n → (g ≡ h) × (m ≡ n)
 same_crossed g h m n e = (cc, cc)
 
 -- what both ends serve each of them serves
@@ -38,7 +38,7 @@ far_serves near far s o h = record { within = h.within; served = by (operation_a
     by Yes e = path_or_none (near.restriction s o) (far.restriction s o) e
     by (Unserved path) e = absurd cc
 
-near_of : (near far : MessageForm) (s : ServiceData) (test : Test) → Serves (towards near far) s test → Serves near s test
+pub near_of : (near far : MessageForm) (s : ServiceData) (test : Test) → Serves (towards near far) s test → Serves near s test
 near_of near far s test serves = record { servable = serves.servable; asks = serves.asks.0; defaults = serves.defaults }
 
 far_of : (near far : MessageForm) (s : ServiceData) (test : Test) → Serves (towards near far) s test → Serves far s test

@@ -8,3 +8,5 @@ pub mod RestBodies
 pub mod RestFramed
 pub mod CrossedFramed
 pub mod AnswersFramed
+pub mod OpenHeads
+pub mod ExchangesCross

@@ -1,6 +1,6 @@
 -- Texts that stand in fields and in targets as they are.
 use Rattle.std.proofs.Common.{◌≡◌, ℕ, zero, suc, ◌<◌, ◌^◌, Bool, true, false, ◌&&◌, List, [], ◌∷◌, ◌++◌, length, reverse, refl, sym, ap, ◌∙◌, subst, arith}
-use Rattle.std.specs.Prelude.{◌==◌, IsTrue, IsUtf8, decimal, get_or, if◌then◌else◌, nat_le, nat_lt, not}
+use Rattle.std.specs.Prelude.{◌==◌, IsTrue, IsUtf8, decimal, get_or, if◌then◌else◌, nat_lt, not}
 use Rattle.std.specs.Char.{digit_value, is_ascii_alphabetic, is_ascii_alphanumeric, is_ascii_digit}
 use Rattle.std.specs.List.{list_all}
 use Rattle.std.specs.Str.Parse.{AllDigits, digits_value}

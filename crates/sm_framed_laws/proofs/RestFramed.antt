@@ -183,7 +183,7 @@ module _ (pass : CarriedTextsPass) (s : ServiceData) (test : Test) (serves : Ser
     pub say : SayNothing (goal_parts s g v).fields
     pub each : All IsWritableField (goal_parts s g v).fields
 
-  goal_known : (g : Goal) → ServesGoal rest_form s g → Fits s.table test (goal_place s g) v → uncarried_parts (bound_at s g) v ≡ []
+  pub goal_known : (g : Goal) → ServesGoal rest_form s g → Fits s.table test (goal_place s g) v → uncarried_parts (bound_at s g) v ≡ []
       → IsGoal g
   goal_known g served fits carried =
       let b = bound_at s g in
@@ -207,6 +207,7 @@ module _ (pass : CarriedTextsPass) (s : ServiceData) (test : Test) (serves : Ser
         say = record {
           coding = none_named (codes "transfer-encoding") (written_headers b fs) refl reserved;
           length = none_named (codes "content-length") (written_headers b fs) refl reserved;
+          connection = none_named (codes "connection") (written_headers b fs) refl reserved;
         };
         each = headers_writable pass b test serves.servable.tokens fs ready.each;
       }
@@ -279,7 +280,7 @@ module _ (pass : CarriedTextsPass) (s : ServiceData) (test : Test) (serves : Ser
       response_writable status (written_type b) (field_of error_field_name name ∷ (goal_parts s g v).fields) (goal_bytes s g v)
       final.0 final.1 final.2 (type_writable s.table (part_of b))
       (All-cons IsWritableField (field_of error_field_name name) (goal_parts s g v).fields told k.each)
-      (record { coding = k.say.coding; length = k.say.length }) within
+      (record { coding = k.say.coding; length = k.say.length; connection = k.say.connection }) within
 
   role_writable : (o : ℕ) (r : Role) → IsGoal (goal_of o r) → IsWithinLimits (rest_written s (goal_of o r) host v)
       → IsWritableMessage (side_by (is_input r)) (rest_written s (goal_of o r) host v)

@@ -52,17 +52,17 @@ module _ (s : ServiceData) (servable : Servable s) (host : List ℕ) (shown : li
       post_token (omega arith) (visible_uris (path_of s o) seen) (ascii_utf8 (path_of s o) seen) shown type_writable
       (All-cons IsWritableField protocol_field (accept_field ∷ []) protocol_writable
       (All-cons IsWritableField accept_field [] accept_writable (All-nil IsWritableField)))
-      (record { coding = refl; length = refl }) short
+      (record { coding = refl; length = refl; connection = refl }) short
   goal_writable o the_output v within short =
       response_writable 200 cbor_type (protocol_field ∷ []) (body_of s (goal_of o the_output) v)
       (record { low = omega arith; high = omega arith }) refl refl type_writable
-      (All-cons IsWritableField protocol_field [] protocol_writable (All-nil IsWritableField)) (record { coding = refl; length = refl }) short
+      (All-cons IsWritableField protocol_field [] protocol_writable (All-nil IsWritableField)) (record { coding = refl; length = refl; connection = refl }) short
   goal_writable o (the_error e) v within short =
       let client = (error_of s (goal_of o (the_error e))).client in
       let status = fault_final client in
       response_writable (fault_status client) cbor_type (protocol_field ∷ []) (body_of s (goal_of o (the_error e)) v)
       status.0 status.1 status.2 type_writable
-      (All-cons IsWritableField protocol_field [] protocol_writable (All-nil IsWritableField)) (record { coding = refl; length = refl }) short
+      (All-cons IsWritableField protocol_field [] protocol_writable (All-nil IsWritableField)) (record { coding = refl; length = refl; connection = refl }) short
 
 pub rpc_framed : WrittenIsRead of_requests → WrittenIsRead of_responses → WrittenIsFramed rpc_form
 rpc_framed asked answered s test g host v serves served fits carried is short = λ rest.

@@ -31,10 +31,11 @@ use Rattle.sm_bind_laws.specs.messages.WrittenHeads.{fault_status, field_of, len
 use Rattle.sm_gateway.specs.GatewayData.{is_visible}
 use Rattle.sm_framed_laws.proofs.PlainTexts.{number_text, token_is, visible_trim, visible_values}
 
--- fields that say nothing of the body
+-- fields that say nothing of the body, nor of the connection
 pub record SayNothing (fields : List Field) : Type 0 where
   pub coding : values_named (codes "transfer-encoding") fields ≡ []
   pub length : values_named (codes "content-length") fields ≡ []
+  pub connection : values_named (codes "connection") fields ≡ []
 
 both_named : (name : List ℕ) (xs ys : List Field) → values_named name (xs ++ ys) ≡ values_named name xs ++ values_named name ys
 both_named name [] ys = refl
@@ -46,7 +47,7 @@ both_named name (f ∷ xs) ys = by (str_eq_ignore_ascii_case f.name name) (both_
     by true rest = ap (λ us. f.value ∷ us) rest
     by false rest = rest
 
-behind_named : (name : List ℕ) (xs ys : List Field) → values_named name xs ≡ [] → values_named name (xs ++ ys) ≡ values_named name ys
+pub behind_named : (name : List ℕ) (xs ys : List Field) → values_named name xs ≡ [] → values_named name (xs ++ ys) ≡ values_named name ys
 behind_named name xs ys none = both_named name xs ys ∙ ap (λ us. us ++ values_named name ys) none
 
 -- what a head says of its body, and that it is taken
